@@ -1,4 +1,4 @@
--- Each octet of a value's compact text is printed, so that the text is on one line.
+-- Each octet of a value's compact text is printable, so that the text is on one line.
 use Rattle.std.proofs.Common.{◌≡◌, ◌≤◌, ◌/◌, ◌%◌, ◌==◌, ℕ, zero, suc, List, [], ◌∷◌, ◌++◌, Bool, true, false, cond, refl}
 use Rattle.std.proofs.Common.{arith, lit≤, decimal}
 use Rattle.std.specs.Prelude.{All, nat_lt, pos, negsuc}
@@ -11,7 +11,7 @@ use Rattle.serde_json.specs.Data.{Num, unsigned, negative, float, Data, null, bo
 use Rattle.serde_json.specs.Data.{Members, no_members, member}
 use Rattle.serde_json.specs.Written.{number_text, comma_if, compact_text, items_text, members_text}
 
--- each octet is printed
+-- each octet is printable: 32 or more
 abbrev pub ArePrinted : List ℕ → Type 0
 ArePrinted octets = All (λ octet. 32 ≤ octet) octets
 
@@ -24,7 +24,7 @@ one octet octets here others = All-cons (λ octet. 32 ≤ octet) octet octets he
 both : (front back : List ℕ) → ArePrinted front → ArePrinted back → ArePrinted (front ++ back)
 both front back one_ other = All-append (λ octet. 32 ≤ octet) front back one_ other
 
--- one of two texts, each of which is printed where it is chosen
+-- one of two texts, each of which is printable if it is chosen
 either : (test : Bool) (chosen other : List ℕ) → (test ≡ true → ArePrinted chosen) → (test ≡ false → ArePrinted other)
     → ArePrinted (cond test chosen other)
 either true chosen other first second = first refl
@@ -102,7 +102,7 @@ false_printed : ArePrinted (102 ∷ 97 ∷ 108 ∷ 115 ∷ 101 ∷ [])
 false_printed = one 102 (97 ∷ 108 ∷ 115 ∷ 101 ∷ []) (lit≤ tt) (word_printed 97 108 115 101 (lit≤ tt) (lit≤ tt) (lit≤ tt) (lit≤ tt))
 
 mutual
-  -- the compact text of a value is printed
+  -- the compact text of a value is printable
   pub compact_printed : (value : Data) → ArePrinted (compact_text value)
   compact_printed null = null_printed
   compact_printed (boolean true) = true_printed

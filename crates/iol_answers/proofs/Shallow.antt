@@ -19,7 +19,7 @@ id_flat : (id_ : RequestId) → depth (id_data id_) ≡ 0
 id_flat (id.Number number) = refl
 id_flat (id.Text text) = refl
 
--- an answer nests no deeper than a reader of JSON goes
+-- an answer nests no deeper than a reader of JSON accepts
 pub answer_shallow : (id_ : Option RequestId) (answer_ : RequestAnswer) → depth (answer_data id_ answer_) ≤ 127
 answer_shallow None (answer.Receipt number) = omega arith
 answer_shallow None (answer.Refused refusal) = omega arith

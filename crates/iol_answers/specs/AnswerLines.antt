@@ -20,7 +20,7 @@ receipt_line number = codes "receipt " ++ (decimal number ++ codes "\n")
 abbrev pub refused_line : Refusal → List ℕ
 refused_line refusal = codes "refused " ++ (name_of refusal ++ (codes " # " ++ (words_of refusal ++ codes "\n")))
 
--- the line of a port that was asked for (format, Lines of a serving master)
+-- the line of a port whose status was requested (format, Lines of a serving master)
 abbrev pub report_line : PortReport → List ℕ
 report_line report = status_line report.port (status_told report.status)
 
@@ -32,7 +32,7 @@ wrong_line mistake = codes "wrong: " ++ (mistake ++ codes "\n")
 abbrev pub with_line_feed : List ℕ → List ℕ
 with_line_feed text = text ++ codes "\n"
 
--- each request that there is, on a line of its own (format, Lines of a serving master)
+-- each request, on a line of its own (format, Lines of a serving master)
 abbrev pub help_lines : List ℕ
 help_lines = flat_map with_line_feed help_texts
 

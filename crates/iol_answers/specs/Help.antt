@@ -1,4 +1,4 @@
--- What can be asked of a serving master.
+-- The requests that a serving master takes.
 use Rattle.std.specs.Prelude.{ℕ, List, [], ◌∷◌, codes}
 
 -- each request with its keys, and what it does (format, Lines of a serving master)

@@ -34,11 +34,11 @@ status_members port status =
     member (codes "port") (whole port) (member (codes "status") (string (status_text status))
     (member (codes "words") (string (meaning_of status)) no_members))
 
--- a port that was asked for (format, Lines of a serving master)
+-- a port and its status, which was requested (format, Lines of a serving master)
 abbrev pub report_data : PortReport → Data
 report_data report = object (status_members report.port (status_told report.status))
 
--- an answer but for its id (format, Lines of a serving master)
+-- an answer without its id (format, Lines of a serving master)
 abbrev pub answer_members : RequestAnswer → Members
 answer_members (answer.Receipt number) = member (codes "receipt") (whole number) no_members
 answer_members (answer.Refused refusal) = refused_members refusal
@@ -47,12 +47,12 @@ answer_members (answer.Statuses reports) = member (codes "statuses") (array (ite
 answer_members (answer.Wrong mistake) = member (codes "wrong") (string mistake.now) no_members
 answer_members answer.Help = member (codes "help") (array (items_of (map string help_texts))) no_members
 
--- members, and the id of the request among them, if it had one (format, Lines of a serving master)
+-- members to which the id of the request is added, if it had one (format, Lines of a serving master)
 abbrev pub with_id : Option RequestId → Members → Members
 with_id None members = members
 with_id (Some id_) members = put (codes "id") (id_data id_) members
 
--- an answer to the request with this id (format, Lines of a serving master)
+-- an answer to the request with this id, if it had one (format, Lines of a serving master)
 abbrev pub answer_data : Option RequestId → RequestAnswer → Data
 answer_data id_ answer_ = object (with_id id_ (answer_members answer_))
 

@@ -8,7 +8,7 @@ use Rattle.iol_texts.specs.Refusals.{refusal_words}
 use Rattle.iol_answers.specs.declared.refusal.Refusal.{Refusal}
 use Rattle.iol_answers.specs.declared.refusal.Refusal.TheVariants as refusal
 
--- the name of why a request is refused or has failed (format, Lines of a serving master)
+-- the name of the cause why a request is refused or has failed (format, Lines of a serving master)
 abbrev pub name_of : Refusal → List ℕ
 name_of (refusal.Submit cause) = refusal_name (refusal_of cause)
 name_of refusal.Memory = codes "Memory"

@@ -5,7 +5,7 @@ use Rattle.iol_core.specs.Statuses.{Status}
 use Rattle.iol_texts.specs.Texts.{status_text}
 use Rattle.iol_texts.specs.Statuses.{status_words}
 
--- the words for a status where nothing else is known of the port's device (format, Lines of a serving master)
+-- the words for a status if nothing else is known of the port's device (format, Lines of a serving master)
 abbrev pub meaning_of : Status → List ℕ
 meaning_of status = status_words None status
 

@@ -15,13 +15,13 @@ pub enum RequestAnswer<'a> {
     Port {
         /// Its number.
         port: PortId,
-        /// What is durable of it.
+        /// Its durable state.
         state: &'a PortState,
     },
-    /// Statuses were asked for. They are printed in this order.
+    /// The statuses that were requested. They are printed in this order.
     Statuses(&'a [PortReport]),
-    /// A line is no request, and this is wrong with it: a text without a line feed.
+    /// A line is no request. This text, without a line feed, says what is wrong with it.
     Wrong(&'a str),
-    /// Which requests there are.
+    /// The list of all requests.
     Help,
 }

@@ -1,4 +1,4 @@
-//! An answer as an object of JSON (docs/FORMATS.md, "Lines of a serving master").
+//! An answer as a JSON object (docs/FORMATS.md, "Lines of a serving master").
 ghost use Rattle.std.specs.Prelude.{◌≡◌, IfOk, map, string_bytes};
 ghost use Rattle.serde_json.specs.Data.{array, string};
 ghost use Rattle.serde_json.specs.View.{items_of, members_view, view};
@@ -18,10 +18,10 @@ use iol_json::members::with;
 use serde_json::{Map, Value};
 use std::alloc::{AllocError, Global};
 
-/// The line of an answer to the request with this id, if it had one: an object of JSON, and a line feed.
+/// The line of an answer to the request with this id, if it had one: a JSON object, and a line feed.
 ///
 /// # Errors
-/// `AllocError` where it is out of memory.
+/// `AllocError` if it is out of memory.
 pub fn answer_json(
     alloc: Global,
     id: Option<RequestId<'_>>,
@@ -44,7 +44,7 @@ fn object_of(
     Ok(Value::Object(with_id(alloc, members, id)?))
 }
 
-// These members, and the id of the request, if it had one.
+// Adds the id of the request, if it had one, to the members.
 fn with_id(
     alloc: Global,
     members: Map<String, Value>,
@@ -68,7 +68,7 @@ fn id_of(alloc: Global, id: RequestId<'_>) -> Result<Value, AllocError>
     }
 }
 
-// The members of an answer but for the id.
+// The members of an answer, without the id.
 fn members_of(alloc: Global, answer: &RequestAnswer) -> Result<Map<String, Value>, AllocError>
     ensures { IfOk result (λ members. members_view members.entries ≡ answer_members answer.now) }
 {
@@ -120,7 +120,7 @@ fn report_of(alloc: Global, report: PortReport) -> Result<Value, AllocError>
     Ok(Value::Object(status_members(alloc, report)?))
 }
 
-// The requests that there are.
+// The list of all requests.
 fn help_of(alloc: Global) -> Result<Value, AllocError>
     ensures { IfOk result (λ value. view value ≡ array (items_of (map string help_texts))) }
 {

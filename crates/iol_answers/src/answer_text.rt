@@ -17,7 +17,7 @@ use std::fmt;
 /// The lines of an answer, each with its line feed.
 ///
 /// # Errors
-/// `AllocError` where it is out of memory.
+/// `AllocError` if it is out of memory.
 pub fn answer_words(alloc: Global, answer: &RequestAnswer) -> Result<String, AllocError>
     ensures { IfOk result (λ text. string_bytes text ≡ answer_lines answer.now) }
 {
@@ -42,7 +42,7 @@ impl fmt::Display for RequestAnswer<'_> {
     }
 }
 
-// The line of a refusal.
+// Writes the line of a refusal.
 fn write_refused<W: fmt::Write>(f: &mut fmt::Formatter<W>, refusal: Refusal) -> fmt::Result
     ensures { WritesOnOk W.write_str_gives f.old result (refused_line refusal) f.new }
 {
@@ -50,7 +50,7 @@ fn write_refused<W: fmt::Write>(f: &mut fmt::Formatter<W>, refusal: Refusal) -> 
     writeln!(f, "refused {name} # {words}")
 }
 
-// The lines of a port that was read.
+// Writes the lines of a port that was read.
 fn write_port<W: fmt::Write>(
     f: &mut fmt::Formatter<W>,
     port: PortId,
@@ -61,7 +61,7 @@ fn write_port<W: fmt::Write>(
     write!(f, "{}", PortText { port, state })
 }
 
-// The lines of ports that were asked for, in order.
+// Writes the lines of the ports whose statuses were requested, in order.
 fn write_reports<W: fmt::Write>(f: &mut fmt::Formatter<W>, reports: &[PortReport]) -> fmt::Result
     ensures { WritesOnOk W.write_str_gives f.old result (flat_map report_line reports.now) f.new }
 {
@@ -71,7 +71,7 @@ fn write_reports<W: fmt::Write>(f: &mut fmt::Formatter<W>, reports: &[PortReport
     Ok(())
 }
 
-// The lines of the requests that there are.
+// Writes a line for each request.
 fn write_help<W: fmt::Write>(f: &mut fmt::Formatter<W>) -> fmt::Result
     ensures { WritesOnOk W.write_str_gives f.old result help_lines f.new }
 {

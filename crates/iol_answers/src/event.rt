@@ -1,4 +1,4 @@
-//! What a serving master prints without being asked.
+//! What a serving master prints without a request.
 
 use iol_port::PortStatus;
 use iol_types::PortId;
@@ -13,11 +13,11 @@ pub enum Event {
         /// The number of commands that were recovered, 0 to 2^62.
         commands: u64,
     },
-    /// A port has another status.
+    /// The status of a port has changed.
     Status {
         /// The port.
         port: PortId,
-        /// Its status.
+        /// Its new status.
         status: PortStatus,
     },
     /// All commands up to this number are durable.

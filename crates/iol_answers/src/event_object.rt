@@ -1,4 +1,4 @@
-//! An event as an object of JSON (docs/FORMATS.md, "Lines of a serving master").
+//! An event as a JSON object (docs/FORMATS.md, "Lines of a serving master").
 ghost use Rattle.std.specs.Prelude.{◌≡◌, IfOk, codes, string_bytes};
 ghost use Rattle.serde_json.specs.Data.{member, object, string};
 ghost use Rattle.serde_json.specs.View.{view};
@@ -14,10 +14,10 @@ use iol_json::members::with;
 use serde_json::{Value, json};
 use std::alloc::{AllocError, Global};
 
-/// The line of an event: an object of JSON, and a line feed.
+/// The line of an event: a JSON object, and a line feed.
 ///
 /// # Errors
-/// `AllocError` where it is out of memory.
+/// `AllocError` if it is out of memory.
 pub fn event_json(alloc: Global, event: &Event) -> Result<String, AllocError>
     ensures { IfOk result (λ text. IsJsonLine (event_data event.now) (string_bytes text)) }
 {

@@ -10,7 +10,7 @@ use std::fmt;
 /// The line of an event, with its line feed.
 ///
 /// # Errors
-/// `AllocError` where it is out of memory.
+/// `AllocError` if it is out of memory.
 pub fn event_words(alloc: Global, event: &Event) -> Result<String, AllocError>
     ensures { IfOk result (λ text. string_bytes text ≡ event_line event.now) }
 {

@@ -1,4 +1,5 @@
-//! A line of each kind, worked out by the prover: a text that is wrong in a definition and in the code alike is refused here.
+//! An example of each kind of line, computed by the prover: if a text is wrong in a definition and in the code alike, its example
+//! fails.
 ghost use Rattle.std.specs.Prelude.{◌≡◌, ℕ, [], ◌∷◌, ◌++◌, map, codes, Some, None};
 ghost use Rattle.serde_json.specs.Written.{compact_text};
 ghost use Rattle.iol_types.specs.Examples.{example_config, port_of, renewed_port};
@@ -19,7 +20,7 @@ ghost use Rattle.iol_answers.specs.declared.request_id.RequestId.TheVariants as 
 use crate::report::PortReport;
 use iol_types::PortState;
 
-/// A receipt, to a request without an id and to one whose id is a number.
+/// A receipt, for a request without an id and for one whose id is a number.
 pub fn receipts()
     ensures words { answer_lines (answer.Receipt 7) ≡ codes "receipt 7\n" }
     ensures last { answer_lines (answer.Receipt 4611686018427387904) ≡ codes "receipt 4611686018427387904\n" }
@@ -27,13 +28,13 @@ pub fn receipts()
     ensures number { compact_text (answer_data (Some (id.Number 3)) (answer.Receipt 7)) ≡ codes "{\"id\":3,\"receipt\":7}" }
 {}
 
-/// An id that is a text, of which a quotation mark is written as two octets.
+/// An id that is a text, in which a quotation mark is written as two octets.
 pub fn texts_as_ids(text: &str)
     ensures { text.now ≡ codes "pump \"3\"" → compact_text (answer_data (Some (id.Text text.entry)) (answer.Receipt 7))
         ≡ codes "{\"id\":\"pump \\\"3\\\"\",\"receipt\":7}" }
 {}
 
-/// A refusal of the core.
+/// Refusals by the core.
 pub fn refusals()
     ensures words { answer_lines (answer.Refused (refusal.Submit submit.QueueFull))
         ≡ codes "refused QueueFull # 64 commands wait for the disk: ask again once some are acknowledged\n" }
@@ -46,7 +47,7 @@ pub fn refusals()
         ≡ codes "refused Stopped # a disk call has failed, and nothing more is taken: replace the disk, and start the master anew\n" }
 {}
 
-/// What is no refusal of the core.
+/// Refusals that are not by the core.
 pub fn other_refusals()
     ensures names { map name_of (refusal.Memory ∷ refusal.Unsure ∷ refusal.Unwritten ∷ refusal.UnknownPort ∷ refusal.Behind ∷ [])
         ≡ codes "Memory" ∷ codes "Unsure" ∷ codes "Unwritten" ∷ codes "UnknownPort" ∷ codes "Behind" ∷ [] }
@@ -94,7 +95,7 @@ pub fn wrong_lines(mistake: &str)
         ≡ codes "{\"wrong\":\"not JSON: \\n\"}" }
 {}
 
-/// The requests that there are.
+/// The list of all requests.
 pub fn help()
     ensures words { answer_lines answer.Help
         ≡ codes "configure port=1..32 mode=0..4 validation=0..4 vendor=0..65535 device=0..16777215 [label=\"TEXT\"] "
@@ -114,7 +115,7 @@ pub fn help()
         ++ codes "\"help # shows these lines\",\"quit # ends the master, once what waits is written\"],\"id\":3}" }
 {}
 
-/// That a master serves: one port or several, no command, one or several.
+/// The event that a master serves: one port or several, no command, one or several.
 pub fn serving()
     ensures words { map event_line (event.Serving 8 12 ∷ event.Serving 1 1 ∷ event.Serving 32 0 ∷ [])
         ≡ codes "serving 8 ports after 12 commands\n" ∷ codes "serving 1 port after 1 command\n"
@@ -122,7 +123,7 @@ pub fn serving()
     ensures json { compact_text (event_data (event.Serving 8 12)) ≡ codes "{\"commands\":12,\"event\":\"serving\",\"ports\":8}" }
 {}
 
-/// That a port has another status.
+/// The event that the status of a port has changed.
 pub fn changed_statuses()
     ensures words { map event_line (event.Status 1 status.Ready ∷ event.Status 1 (status.Failed port.Busy) ∷ [])
         ≡ codes "port 1 ready # the transfer is done: device and stored set are the same\n"
@@ -132,7 +133,7 @@ pub fn changed_statuses()
         ++ codes "\"words\":\"the transfer is done: device and stored set are the same\"}" }
 {}
 
-/// That more commands are durable, and that the master has ended.
+/// The events that more commands are durable, and that the master has ended.
 pub fn numbers()
     ensures words { map event_line (event.Durable 8 ∷ event.Ended 9 ∷ []) ≡ codes "durable 8\n" ∷ codes "ended 9\n" ∷ [] }
     ensures durable { compact_text (event_data (event.Durable 8)) ≡ codes "{\"event\":\"durable\",\"number\":8}" }

@@ -1,8 +1,8 @@
-//! The requests that there are, for people.
+//! The list of all requests, for people.
 ghost use Rattle.std.specs.Prelude.{◌≡◌, map};
 ghost use Rattle.iol_answers.specs.Help.{help_texts};
 
-// The number of requests that there are.
+// The number of requests in the list.
 pub(crate) const REQUESTS: usize = 7;
 
 // Each request with its keys, and what it does.

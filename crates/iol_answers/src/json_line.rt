@@ -1,4 +1,4 @@
-//! A value of JSON on one line.
+//! A JSON value on one line.
 ghost use Rattle.std.specs.Prelude.{◌≡◌, ◌≤◌, false, IfOk, string_bytes};
 ghost use Rattle.serde_json.specs.Data.{depth};
 ghost use Rattle.serde_json.specs.Read.{max_depth};
@@ -9,7 +9,7 @@ ghost use Rattle.iol_answers.specs.JsonLines.{IsJsonLine};
 use serde_json::Value;
 use std::alloc::{AllocError, Global};
 
-// The line of a value, which has no float and nests no deeper than a reader goes.
+// The line of a value, which has no float and nests no deeper than a reader accepts.
 pub(crate) fn json_line(alloc: Global, value: &Value) -> Result<String, AllocError>
     requires plain { has_float (view value.now) ≡ false }
     requires shallow { depth (view value.now) ≤ max_depth }

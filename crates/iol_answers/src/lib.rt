@@ -1,14 +1,14 @@
 //! The lines that a serving master prints: answers to requests, and events.
 //!
-//! In comes an answer or an event; out comes its text, in words or as an object of JSON on one line. There is no thread here,
-//! no disk and no input: who serves reads the requests, asks the master, and prints these lines.
+//! Takes an answer or an event, and returns its text, in words or as a JSON object on one line. This crate has no thread, no disk
+//! and no input: its caller reads the requests, passes them to the master, and prints these lines.
 //!
 //! Modules in reading order:
-//! - `answer`, `refusal`, `report`, `request_id` and `event` are what is printed.
-//! - `help` has the requests that there are.
+//! - `answer`, `refusal`, `report`, `request_id` and `event` have the types of what is printed.
+//! - `help` has the list of all requests.
 //! - `answer_text`, `event_text` and `report_text` have the lines in words.
 //! - `answer_object`, `event_object` and `report_object` have the objects, and `json_line` the line of one.
-//! - `examples` has a line of each kind, worked out.
+//! - `examples` has an example of each kind of line.
 //!
 //! The lines in words are defined in `specs/AnswerLines.antt` and `specs/EventLines.antt`, the objects in
 //! `specs/Objects.antt` (docs/FORMATS.md, "Lines of a serving master").

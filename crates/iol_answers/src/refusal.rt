@@ -8,15 +8,15 @@ use iol_types::CommandFault;
 /// Why a request is refused, or has failed.
 #[derive(Clone, Copy)]
 pub enum Refusal {
-    /// The core did not take the change.
+    /// The core did not accept the change.
     Submit(SubmitFault),
-    /// Out of memory, before anything was asked for.
+    /// Out of memory, before the request was passed on.
     Memory,
     /// The disk failed before the change was known to be durable.
     Unsure,
-    /// The change was taken, and is not written, since its batch is out of memory.
+    /// The change was accepted, but is not written, since its batch is out of memory.
     Unwritten,
-    /// The master has no port of the number that was asked for.
+    /// The master has no port with the requested number.
     UnknownPort,
     /// Fewer commands are acknowledged than the client has seen.
     Behind,
@@ -25,7 +25,7 @@ pub enum Refusal {
 impl Refusal {
     ghost use Rattle.iol_answers.specs.Refusals.{name_of, words_of};
 
-    // Its name.
+    // The name of the cause.
     pub(crate) fn name(self) -> &'static str
         ensures { result.now ≡ name_of self }
     {
@@ -39,7 +39,7 @@ impl Refusal {
         }
     }
 
-    // Its cause, and what to do.
+    // The cause in words, and what to do.
     pub(crate) fn words(self) -> &'static str
         ensures { result.now ≡ words_of self }
     {

@@ -1,4 +1,4 @@
-//! What is said of one port where its status is asked for.
+//! The report of the status of one port.
 
 use iol_port::PortStatus;
 use iol_types::PortId;

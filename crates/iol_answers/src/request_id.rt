@@ -1,6 +1,6 @@
-//! The id of a request, which its answer gives back.
+//! The id of a request, which its answer repeats.
 
-/// The id of a request that is spelled in JSON.
+/// The id of a request that is written in JSON.
 #[derive(Clone, Copy)]
 pub enum RequestId<'a> {
     /// A whole number.

@@ -1,4 +1,4 @@
-//! What is answered of a text.
+//! The answer to a text.
 ghost use Rattle.std.specs.Prelude.{◌≡◌, IfOk, Some, string_bytes};
 ghost use Rattle.iol_script.specs.Script.{said_in, said_of};
 ghost use Rattle.iol_check.specs.Answer.{IsAnswer};
@@ -11,16 +11,16 @@ use iol_commands::{Fault, read_playable};
 use iol_script::Script;
 use std::alloc::{AllocError, Global};
 
-// What is printed of a text.
+// What is printed for a text.
 #[derive(Drop)]
 pub enum CheckAnswer {
-    // It can be run: its line, and notes.
+    // The text can be run: its line, and notes.
     Fine(String),
-    // It cannot: a line for each mistake.
+    // The text cannot be run: a line for each mistake.
     Mistakes(String),
 }
 
-// The answer to a text. Whether it can be run is asked of the call that a run makes.
+// The answer to a text. Whether the text can be run is decided by the same call that a run makes.
 pub(crate) fn answer_to(alloc: Global, text: &[u8]) -> Result<CheckAnswer, AllocError>
     ensures { IfOk result (IsAnswer text.now) }
 {
@@ -29,12 +29,12 @@ pub(crate) fn answer_to(alloc: Global, text: &[u8]) -> Result<CheckAnswer, Alloc
         Err(Fault::Script | Fault::Geometry) => Ok(CheckAnswer::Mistakes(mistakes_of(
             alloc, text,
         )?)),
-        // No other fault is one of the text.
+        // No other fault is a fault of the text.
         Err(_) => Err(AllocError),
     }
 }
 
-// The line of the script that a text says, and the notes on it.
+// The line of the script of a text, and the notes on it.
 fn fine_text(alloc: Global, text: &[u8], script: &Script) -> Result<String, AllocError>
     requires { said_in text.now ≡ Some (said_of script.now) }
     ensures { IfOk result (λ printed. TellsFine text.now (string_bytes printed)) }

@@ -1,9 +1,9 @@
-//! What is found in the text of a script.
+//! The entries that are found in the text of a script.
 
 use crate::keys::Key;
 use crate::part::Part;
 
-// What a table is.
+// The role of a table.
 #[derive(Clone, Copy, PartialEq, Eq)]
 pub(crate) enum Role {
     Script,
@@ -12,7 +12,7 @@ pub(crate) enum Role {
 }
 
 impl Role {
-    // What the tables of the array at a key of the script are.
+    // The role of the tables in the array at a key of the script.
     pub(crate) fn of_array(key: Option<Key>) -> Option<Role> {
         match key {
             Some(Key::Device) => Some(Role::Device),
@@ -22,37 +22,37 @@ impl Role {
     }
 }
 
-// What an entry is.
+// The form of an entry.
 #[derive(Clone, Copy, PartialEq, Eq)]
 pub(crate) enum Form {
-    // A table begins.
+    // The beginning of a table.
     Table,
-    // A value that is no table stands among the tables of an array.
+    // A value of an array of tables that is not a table.
     NoTable,
     // A key with a value.
     Value,
-    // A key with a table, by a header or by dots between keys.
+    // A key with a table, which a header or dots between keys make.
     Subtable,
 }
 
-// One thing that is found in a text.
+// An entry: one thing that is found in a text.
 #[derive(Clone, Copy)]
 pub(crate) struct Entry {
     pub(crate) form: Form,
-    // What the table is in which it stands.
+    // The role of the table that it is in.
     pub(crate) role: Role,
-    // The number of the entry with which that table begins. It tells tables apart.
+    // The number of the entry with which that table begins. It is different for each table.
     pub(crate) table: usize,
-    // The key, where it is a known one.
+    // The key, if it is a known one.
     pub(crate) key: Option<Key>,
-    // The key or the header as it stands; of a table and of what is none, where it begins.
+    // The key or the header as it is in the text. For a `Table` and a `NoTable` it is empty, at the place where they begin.
     pub(crate) name: Part,
-    // The value as it stands; nothing where there is none.
+    // The value as it is in the text, or empty if there is none.
     pub(crate) value: Part,
 }
 
 impl Entry {
-    // The word of its key alone: of a header below a table the key behind that of the table.
+    // The word of its key alone. For a header below a table, this is the key after that of the table.
     pub(crate) fn word(self, text: &str) -> &str {
         let name = self.name.of(text);
         let keys = name.trim_start_matches('[').trim_end_matches(']');

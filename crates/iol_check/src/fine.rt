@@ -7,7 +7,7 @@ use iol_script::Script;
 use std::alloc::{AllocError, Global};
 use std::fmt;
 
-// The line that says what a script has.
+// The line with the counts of a script.
 pub(crate) fn fine_line(alloc: Global, script: &Script) -> Result<String, AllocError>
     ensures { IfOk result (λ line. string_bytes line ≡ fine_line (said_of script.now)) }
 {
@@ -20,14 +20,14 @@ pub(crate) fn fine_line(alloc: Global, script: &Script) -> Result<String, AllocE
     counts.to_string(alloc)
 }
 
-// How many a whole number counts, which is none where it is below 0.
+// A whole number as a count, which is 0 if the number is negative.
 fn count_of(number: i64) -> usize
     ensures { result ≡ count_of number }
 {
     usize::try_from(number).unwrap_or(0)
 }
 
-// What a script has.
+// The counts of a script.
 #[derive(Drop)]
 struct Counts {
     ports: usize,
@@ -52,7 +52,7 @@ impl fmt::Display for Counts {
     }
 }
 
-// A count behind its word, which has an s unless one is counted.
+// A word and its count, which is written first. The word has an s unless the count is 1.
 #[derive(Drop)]
 struct Counted(&'static str, usize);
 

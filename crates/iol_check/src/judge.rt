@@ -12,13 +12,13 @@ use iol_types::PORTS;
 use std::alloc::{AllocError, Global};
 use toml::Value;
 
-// What a text is judged by.
+// A text, and what is needed to find its mistakes.
 #[derive(Drop)]
 pub(crate) struct Judge<'t> {
     pub(crate) alloc: Global,
     pub(crate) text: &'t str,
     pub(crate) entries: Vec<Entry>,
-    // How many ports the script has, where it says so.
+    // The number of ports of the script, or `None` if it has no valid number.
     ports: Option<i64>,
 }
 
@@ -42,7 +42,7 @@ impl<'t> Judge<'t> {
         Ok(())
     }
 
-    // Writes the mistakes of the entry of this number.
+    // Writes the mistakes of the entry with this number.
     fn write_of_entry(
         &self,
         number: usize,
@@ -63,7 +63,7 @@ impl<'t> Judge<'t> {
     fn write_missing(&self, table: Entry, lines: &mut String) -> Result<(), AllocError> {
         match self.kind_of(table)? {
             Some(kind) => self.write_missing_keys(kind, table, lines),
-            // Where it has `do`, that is the mistake.
+            // If the table has `do`, the mistake is there, and nothing is missing.
             None => self.write_missing_key(Key::Do, May::Words(STEPS), table, lines),
         }
     }
@@ -82,7 +82,7 @@ impl<'t> Judge<'t> {
         Ok(())
     }
 
-    // Writes that a key is missing, where it is.
+    // Writes that a key is missing, if it is.
     fn write_missing_key(
         &self,
         key: Key,
@@ -98,7 +98,7 @@ impl<'t> Judge<'t> {
         self.write_may(may, lines)
     }
 
-    // Writes that a value among tables is none.
+    // Writes that a value in an array of tables is not a table.
     fn write_no_table(&self, entry: Entry, lines: &mut String) -> Result<(), AllocError> {
         let key = match entry.role {
             Role::Step => Key::Step,
@@ -114,7 +114,7 @@ impl<'t> Judge<'t> {
         match (kind, entry.key) {
             (Some(kind), Some(key)) => self.write_of_known(kind, key, entry, lines),
             (None, Some(Key::Do)) => self.write_wrong(entry, May::Words(STEPS), lines),
-            // What a key of no known step may be is not known.
+            // What is allowed at a key of an unknown step is not known.
             (None, Some(_)) => Ok(()),
             (kind, None) => self.write_unknown_key(kind, entry, lines),
         }
@@ -131,7 +131,7 @@ impl<'t> Judge<'t> {
         write_unknown(self.alloc, lines, kind, entry.word(self.text))
     }
 
-    // Writes the mistakes of a key that some table may have, in such a table.
+    // Writes the mistakes of a known key in a table of this kind.
     fn write_of_known(
         &self,
         kind: Kind,
@@ -149,7 +149,7 @@ impl<'t> Judge<'t> {
         }
     }
 
-    // Whether a value is right at its key. Of an array its values are judged one by one, and each of its tables.
+    // Whether a value is right at its key. The values of an array are checked one by one, and so are its tables.
     fn is_right(&self, kind: Kind, key: Key, entry: Entry) -> Result<bool, AllocError> {
         if entry.form == Form::Subtable {
             return Ok(false);
@@ -164,17 +164,17 @@ impl<'t> Judge<'t> {
         is_right(self.alloc, ports, kind, key, entry.value.of(self.text))
     }
 
-    // How many ports the script has; where it does not say so, the most that it may have.
+    // The number of ports of the script, or the largest number that it may have if it has no valid one.
     fn most_ports(&self) -> i64 {
         self.ports.unwrap_or(i64::from(PORTS))
     }
 
-    // How many ports its slots are judged by; where it does not say so, one, for which the fewest are enough.
+    // The number of ports by which its slots are checked. If it has no valid one, this is 1, which needs the fewest slots.
     fn fewest_ports(&self) -> i64 {
         self.ports.unwrap_or(1)
     }
 
-    // Writes the mistakes of a value that is right where it stands alone.
+    // Writes the mistakes of a value that is right by itself.
     fn write_of_right(
         &self,
         kind: Kind,
@@ -192,14 +192,14 @@ impl<'t> Judge<'t> {
         }
     }
 
-    // Writes that a value may not stand at its key.
+    // Writes that a value is not allowed at its key.
     fn write_wrong(&self, entry: Entry, may: May, lines: &mut String) -> Result<(), AllocError> {
         let name = entry.name.of(self.text);
         write_found(lines, self.text, entry.name.start, name, entry.value)?;
         self.write_may(may, lines)
     }
 
-    // What may stand at a key, and the end of the line.
+    // Writes what is allowed at a key, and the end of the line.
     fn write_may(&self, may: May, lines: &mut String) -> Result<(), AllocError> {
         match may {
             May::Words(words) => writeln!(lines, "{words}"),
@@ -211,7 +211,7 @@ impl<'t> Judge<'t> {
         }
     }
 
-    // How many slots the script may have, which its ports decide.
+    // Writes how many slots the script may have, which depends on its ports.
     fn write_slots(&self, lines: &mut String) -> Result<(), AllocError> {
         let least = least_slots(self.alloc, self.fewest_ports())?;
         write!(lines, "{least} to {MOST_SLOTS}")?;
@@ -226,7 +226,7 @@ impl<'t> Judge<'t> {
         value.inside(self.text, '[').is_some()
     }
 
-    // What the table of an entry is; nothing for a step that names no known one.
+    // The kind of the table of an entry, or `None` for an unknown step.
     fn kind_of(&self, entry: Entry) -> Result<Option<Kind>, AllocError> {
         match entry.role {
             Role::Script => Ok(Some(Kind::Script)),
@@ -238,7 +238,7 @@ impl<'t> Judge<'t> {
         }
     }
 
-    // The first entry with a key in a table.
+    // The first entry of a table with this key.
     pub(crate) fn entry_at(&self, table: usize, key: Key) -> Option<Entry> {
         for entry in self.entries.as_slice().get(table..).unwrap_or(&[]) {
             if entry.table == table && entry.key == Some(key) {
@@ -248,7 +248,7 @@ impl<'t> Judge<'t> {
         None
     }
 
-    // Whether the key of the entry of this number stands before it in its table.
+    // Whether the table of the entry with this number has the same key before it.
     fn stands_before(&self, number: usize, entry: Entry) -> bool {
         for other in self
             .entries
@@ -264,7 +264,7 @@ impl<'t> Judge<'t> {
         false
     }
 
-    // Unknown keys are the same where they stand in the same letters.
+    // Unknown keys are the same if they are spelled the same.
     fn is_same_key(&self, one: Entry, other: Entry) -> bool {
         match (one.key, other.key) {
             (Some(key), Some(other)) => key == other,
@@ -273,7 +273,7 @@ impl<'t> Judge<'t> {
         }
     }
 
-    // Whether no step follows that of an entry.
+    // Whether no step follows the step of an entry.
     fn is_last_step(&self, entry: Entry) -> bool {
         for other in self.entries.as_slice().get(entry.table..).unwrap_or(&[]) {
             if other.role == Role::Step && other.table != entry.table {
@@ -284,7 +284,7 @@ impl<'t> Judge<'t> {
     }
 }
 
-// What may stand at a key that such a table needs.
+// What is allowed at a key, if a table of this kind needs that key.
 fn needed(kind: Kind, key: Key) -> Option<May> {
     let rule = kind.rule(key)?;
     if rule.needed.is_some() {
@@ -303,7 +303,7 @@ fn has_array(kind: Kind, key: Key) -> bool {
     }
 }
 
-// The step that a value names, as it stands in a text.
+// The step that is named by a value as it is in the text.
 fn step_named(alloc: Global, value: &str) -> Result<Option<Kind>, AllocError> {
     match Value::from_str(alloc, value) {
         Ok(value) => Ok(step_of(&value)),
@@ -316,7 +316,7 @@ fn step_of(value: &Value) -> Option<Kind> {
     Kind::of_step(value.as_str()?)
 }
 
-// What stands at `ports`.
+// The value at `ports`, or an empty part if there is none.
 fn ports_value(entries: &[Entry]) -> Part {
     for entry in entries {
         let is_ports = entry.role == Role::Script && entry.key == Some(Key::Ports);

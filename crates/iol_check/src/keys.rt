@@ -1,6 +1,6 @@
 //! The keys of scripts.
 
-// A key of a script, of a device or of a step. One name is one key, in whichever tables it may stand.
+// A key of a script, of a device or of a step. One name is one key, whichever tables may have it.
 #[derive(Clone, Copy, PartialEq, Eq)]
 pub(crate) enum Key {
     Do,
@@ -26,7 +26,7 @@ pub(crate) enum Key {
     Keep,
 }
 
-// All keys, in the order in which a table is told its own.
+// All keys, in the order in which the keys of a table are listed.
 pub(crate) const KEYS: [Key; 21] = [
     Key::Do,
     Key::Ports,
@@ -52,7 +52,7 @@ pub(crate) const KEYS: [Key; 21] = [
 ];
 
 impl Key {
-    // The key of this name.
+    // The key with this name.
     pub(crate) fn named(name: &str) -> Option<Key> {
         for key in KEYS {
             if key.name() == name {

@@ -1,14 +1,14 @@
-//! What the lines of mistakes have in common: the place, the key, and what was found.
+//! The parts that all lines of mistakes have: the place, the key, and what was found.
 
 use crate::entry::Entry;
 use crate::part::Part;
 use crate::place::TextPosition;
 use std::alloc::AllocError;
 
-// How many characters of a text are shown.
+// The largest number of characters of a text that are shown.
 const MOST_SHOWN: usize = 40;
 
-// The place of an octet of a text, and what is spoken of there.
+// Writes the place of an octet of a text, and the name of what is there.
 pub(crate) fn write_at(
     lines: &mut String,
     text: &str,
@@ -20,7 +20,7 @@ pub(crate) fn write_at(
     write_cut(lines, name)
 }
 
-// A line of an entry: its key as it stands, and what is said of it.
+// Writes the line of an entry: its key as it is in the text, and a message.
 pub(crate) fn write_said(
     lines: &mut String,
     text: &str,
@@ -31,7 +31,7 @@ pub(crate) fn write_said(
     writeln!(lines, ": {said}")
 }
 
-// The place of a value that may not stand at a key, that key, and the value as it stands.
+// Writes the place of a value that is not allowed at a key, that key, and the value as it is in the text.
 pub(crate) fn write_found(
     lines: &mut String,
     text: &str,
@@ -48,7 +48,7 @@ pub(crate) fn write_found(
     lines.push_str(": ")
 }
 
-// A text on one line, and no more of it than is shown.
+// Writes a text on one line, cut after `MOST_SHOWN` characters.
 pub(crate) fn write_cut(lines: &mut String, text: &str) -> Result<(), AllocError> {
     let mut left = MOST_SHOWN;
     for character in text.chars() {

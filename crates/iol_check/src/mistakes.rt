@@ -9,9 +9,9 @@ use std::str;
 use toml::de::Error;
 use toml_parser::ErrorKind;
 
-/// Writes a line for each mistake of a text behind those that are there (docs/FORMATS.md, "Check").
+/// Appends a line for each mistake of a text to `lines` (docs/FORMATS.md, "Check").
 ///
-/// Nothing more is looked for in what is too long, or is no text.
+/// If the octets are too long or not UTF-8, no other mistake is looked for.
 pub(crate) fn write_mistakes(
     alloc: Global,
     text: &[u8],
@@ -33,7 +33,7 @@ pub(crate) fn write_mistakes(
     }
 }
 
-// Where a text is no TOML the parser's fault is the mistake; but a key that stands twice is one among others.
+// If a text is not TOML, the parser's fault is its only mistake. But a key that is there twice is one mistake among others.
 fn write_of_text(alloc: Global, text: &str, lines: &mut String) -> Result<(), AllocError> {
     match toml::table_from_str(alloc, text) {
         Ok(_) => write_judged(alloc, text, lines),
@@ -58,7 +58,7 @@ fn is_double(error: &Error) -> bool {
     error.message() == ErrorKind::DuplicateKey.description()
 }
 
-// The fault of a text that is no TOML.
+// Writes the fault of a text that is not TOML.
 fn write_fault(text: &str, error: &Error, lines: &mut String) -> Result<(), AllocError> {
     let at = match error.span() {
         Some(span) => span.start,

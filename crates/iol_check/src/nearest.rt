@@ -1,14 +1,14 @@
-//! The key that was meant where an unknown one stands.
+//! Finds the key that was meant by an unknown one.
 
 use crate::keys::{KEYS, Key};
 use crate::rules::Kind;
 use std::alloc::{AllocError, Global};
 use strsim::jaro;
 
-// How alike two words are at least where one may be meant for the other. The words of the command line go by the same.
+// Two words must be more alike than this, if one may be meant by the other. The words of the command line follow the same rule.
 const LEAST_ALIKE: f64 = 0.7;
 
-// Says that a key is unknown to such a table, and which of its keys was meant, or which it has.
+// Writes that a key is unknown to a table of this kind, and which of its keys was meant, or which keys it has.
 pub(crate) fn write_unknown(
     alloc: Global,
     lines: &mut String,
@@ -25,7 +25,7 @@ pub(crate) fn write_unknown(
     }
 }
 
-// The key of such a table that is most like a word, if one is like it.
+// The key of a table of this kind that is most like a word, if one is like it.
 fn nearest_to(alloc: Global, kind: Option<Kind>, word: &str) -> Result<Option<Key>, AllocError> {
     let mut nearest = None;
     let mut most = LEAST_ALIKE;
@@ -43,7 +43,7 @@ fn nearest_to(alloc: Global, kind: Option<Kind>, word: &str) -> Result<Option<Ke
     Ok(nearest)
 }
 
-// All keys of such a table, and the end of the line.
+// Writes all keys of a table of this kind, and the end of the line.
 fn write_keys(lines: &mut String, kind: Option<Kind>) -> Result<(), AllocError> {
     let mut before = ": ";
     for key in KEYS {

@@ -1,4 +1,4 @@
-//! What is noted of a script that can be run.
+//! The notes on a script that can be run.
 
 use crate::entry::{Entry, Form, Role};
 use crate::line::write_at;
@@ -7,7 +7,7 @@ use iol_script::{Device, Script, Step};
 use std::alloc::{AllocError, Global};
 use std::str;
 
-/// The notes on a script, which a text says: a device at a port that makes no step is never spoken with.
+/// The notes on the script of a text: one for each device at a port that makes no step, since nothing is ever sent to it.
 pub(crate) fn notes_of(alloc: Global, text: &[u8], script: &Script) -> Result<String, AllocError> {
     let mut notes = String::new(alloc);
     if let Ok(text) = str::from_utf8(text) {
@@ -17,7 +17,7 @@ pub(crate) fn notes_of(alloc: Global, text: &[u8], script: &Script) -> Result<St
     Ok(notes)
 }
 
-// The tables of devices, in their order.
+// The tables of devices, in the order of the text.
 fn device_tables(alloc: Global, text: &str) -> Result<Vec<Entry>, AllocError> {
     let mut tables = Vec::new(alloc);
     for entry in entries_of(alloc, text)? {

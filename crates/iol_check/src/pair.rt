@@ -1,4 +1,4 @@
-//! A key of a text with its value.
+//! Keys of a text, and their values.
 
 use crate::keys::Key;
 use crate::part::Part;
@@ -7,14 +7,14 @@ use std::alloc::{AllocError, Global};
 use toml_parser::text::skip_ws;
 use toml_parser::{Key as DottedKey, ParseError, dotted_key};
 
-// Keys with dots between them: the first one or two, each where it is a known one.
+// A key, or several with dots between them: the first one or two, each `None` if it is unknown.
 #[derive(Clone, Copy)]
 pub(crate) enum Path {
     One(Option<Key>),
     More(Option<Key>, Option<Key>),
 }
 
-// A key with its value.
+// A key and its value.
 #[derive(Clone, Copy)]
 pub(crate) struct Pair {
     pub(crate) path: Path,
@@ -22,7 +22,8 @@ pub(crate) struct Pair {
     pub(crate) value: Part,
 }
 
-// The key and the value in front of an end of a text, and what is behind them; nothing where they cannot be read.
+// Reads the key and the value at `start`, a suffix of `text`, and returns them and the text after them, or `None` if they cannot
+// be read.
 pub(crate) fn pair_at<'t>(
     alloc: Global,
     text: &str,
@@ -34,7 +35,7 @@ pub(crate) fn pair_at<'t>(
     }
 }
 
-// The pair of a path that was read, and of the value behind `=`.
+// The pair of a path that was read and the value after `=`.
 fn pair_with<'t>(path: Path, text: &str, start: &str, equals: &'t str) -> Option<(Pair, &'t str)> {
     let value = skip_ws(equals.strip_prefix('=')?);
     let (_, behind) = value.split_at_checked(value_octets(value))?;
@@ -46,7 +47,8 @@ fn pair_with<'t>(path: Path, text: &str, start: &str, equals: &'t str) -> Option
     Some((pair, behind))
 }
 
-// The keys in front of a text, and what is behind them and the white space there; nothing where there is no key.
+// Reads the keys at the beginning of a text, and returns them and the text after them and their white space, or `None` if there
+// is no key.
 pub(crate) fn path_at(alloc: Global, text: &str) -> Result<Option<(Path, &str)>, AllocError> {
     match dotted_key(alloc, text) {
         Ok((keys, behind)) => Ok(Some((path_of(&keys), behind))),

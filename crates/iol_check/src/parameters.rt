@@ -10,7 +10,7 @@ use crate::trial::are_parameters;
 use iol_script::MOST_PARAMETERS;
 use std::alloc::{AllocError, Global};
 
-// What each of the keys may be, and each of the values.
+// What each of the keys and each of the values may be.
 const EACH_KEY: &str = "[Index, Subindex], 1 to 65,535 but 2 and 3, and 0 to 255\n";
 
 const EACH_VALUE: &str = "two hexadecimal digits for each octet, 232 octets at most\n";
@@ -20,7 +20,7 @@ const USUAL_KEY: &str = "[64, 0]";
 
 const USUAL_VALUE: &str = "\"\"";
 
-// Keys of a device that are right so far, with as many values.
+// The keys of a device that are right so far, with the same number of values.
 #[derive(Drop)]
 struct Kept {
     count: usize,
@@ -37,7 +37,7 @@ impl Kept {
         }
     }
 
-    // Keeps a key. Whether the device may have it beside the others; where it may not it is not kept.
+    // Keeps a key if the device may have it beside those that are kept. Returns whether it was kept.
     fn keeps(&mut self, alloc: Global, key: &str) -> Result<bool, AllocError> {
         let keys = format!(in alloc; "{}{key}", self.keys.as_str())?;
         let values = format!(in alloc; "{}{USUAL_VALUE}", self.values.as_str())?;
@@ -54,8 +54,8 @@ impl Kept {
 }
 
 impl Judge<'_> {
-    // Writes the mistakes of the keys of a device: those that are none or stand twice, those over the most that it may
-    // have, and that they have no values.
+    // Writes the mistakes of the keys of a device: those that are not valid or are there twice, those over the largest number
+    // that it may have, and that they have no values.
     pub(crate) fn write_wrong_keys(
         &self,
         entry: Entry,
@@ -94,7 +94,7 @@ impl Judge<'_> {
         }
     }
 
-    // Writes the mistakes of the values of a device: those that are none, and that they are not as many as its keys.
+    // Writes the mistakes of the values of a device: those that are not valid, and that their number is not that of its keys.
     pub(crate) fn write_wrong_values(
         &self,
         entry: Entry,
@@ -107,7 +107,7 @@ impl Judge<'_> {
         Ok(())
     }
 
-    // Writes that a value is none, if it is none.
+    // Writes that a value is not valid, if it is not.
     fn write_wrong_value(&self, value: Part, lines: &mut String) -> Result<(), AllocError> {
         if are_parameters(self.alloc, USUAL_KEY, value.of(self.text))? {
             return Ok(());
@@ -116,7 +116,7 @@ impl Judge<'_> {
         lines.push_str(EACH_VALUE)
     }
 
-    // Writes that the device of an entry has not as many values as keys, where both are arrays.
+    // Writes that the device of an entry has different numbers of keys and values, if each is an array or missing.
     fn write_unlike_counts(&self, entry: Entry, lines: &mut String) -> Result<(), AllocError> {
         let keys = self.count_at(entry.table, Key::Keys)?;
         let values = self.count_at(entry.table, Key::Values)?;
@@ -129,7 +129,7 @@ impl Judge<'_> {
         }
     }
 
-    // How many values the array at a key of a table has, and none where the key is missing; nothing where it is no array.
+    // The number of values of the array at a key of a table: 0 if the key is missing, and `None` if its value is not an array.
     fn count_at(&self, table: usize, key: Key) -> Result<Option<usize>, AllocError> {
         match self.entry_at(table, key) {
             None => Ok(Some(0)),

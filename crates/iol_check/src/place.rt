@@ -2,7 +2,7 @@
 
 use std::fmt;
 
-// Where something stands in a text: its line and its column, both from 1. A column counts characters.
+// A place in a text: its line and its column, both from 1. A column counts characters.
 #[derive(Clone, Copy)]
 pub(crate) struct TextPosition {
     line: usize,
@@ -10,7 +10,7 @@ pub(crate) struct TextPosition {
 }
 
 impl TextPosition {
-    // The place of the octet of this number, from 0. A byte order mark in front of the text is no character.
+    // The place of the octet with this number, from 0. A byte order mark at the beginning is not counted as a character.
     pub(crate) fn at(text: &[u8], number: usize) -> TextPosition {
         let mut place = TextPosition { line: 1, column: 1 };
         for octet in without_mark(text.get(..number).unwrap_or(text)) {
@@ -19,7 +19,7 @@ impl TextPosition {
         place
     }
 
-    // The place behind an octet that stands here.
+    // The place after an octet that is at this place.
     fn behind(self, octet: u8) -> TextPosition {
         if octet == b'\n' {
             TextPosition {

@@ -1,4 +1,4 @@
-//! What is found in a text: its tables, and their keys and values.
+//! Finds the tables of a text, and their keys and values.
 
 use crate::entry::{Entry, Form, Role};
 use crate::keys::Key;
@@ -8,20 +8,20 @@ use crate::tables::read_tables;
 use std::alloc::{AllocError, Global};
 use toml_parser::text::{skip_blank, skip_ws};
 
-// What is found so far.
+// The entries that were found so far.
 #[derive(Drop)]
 pub(crate) struct EntriesRead {
     entries: Vec<Entry>,
-    // What the last table that began is.
+    // The role of the last table that began.
     role: Role,
-    // The number of the entry with which it began.
+    // The number of the entry with which that table began.
     table: usize,
-    // Whether keys belong to it, and not to a table below it or elsewhere, in which nothing is looked for.
+    // Whether keys belong to that table. Otherwise they belong to a table below it or elsewhere, and are skipped.
     is_open: bool,
 }
 
 impl EntriesRead {
-    // The table of the whole script begins.
+    // Begins with the table of the whole script.
     fn new(alloc: Global) -> Result<EntriesRead, AllocError> {
         let mut found = EntriesRead {
             entries: Vec::new(alloc),
@@ -33,7 +33,7 @@ impl EntriesRead {
         Ok(found)
     }
 
-    // A table begins at an octet of the text.
+    // Begins a table at an octet of the text.
     pub(crate) fn begin(&mut self, role: Role, at: usize) -> Result<(), AllocError> {
         self.role = role;
         self.table = self.entries.len();
@@ -41,14 +41,14 @@ impl EntriesRead {
         self.add(Form::Table, None, Part::empty(at), Part::empty(at))
     }
 
-    // The keys of the script go on.
+    // Continues with the keys of the script.
     pub(crate) fn resume(&mut self) {
         self.role = Role::Script;
         self.table = 0;
         self.is_open = true;
     }
 
-    // Something in the last table.
+    // Adds an entry of the last table.
     fn add(
         &mut self,
         form: Form,
@@ -68,7 +68,7 @@ impl EntriesRead {
         Ok(())
     }
 
-    // A value that is no table, among those of an array.
+    // Adds a value of an array of tables that is not a table.
     pub(crate) fn add_no_table(&mut self, role: Role, value: Part) -> Result<(), AllocError> {
         self.entries.push(Entry {
             form: Form::NoTable,
@@ -81,7 +81,7 @@ impl EntriesRead {
         Ok(())
     }
 
-    // A key with its value.
+    // Adds a key with its value, unless keys are skipped.
     pub(crate) fn add_pair(&mut self, pair: Pair) -> Result<(), AllocError> {
         match (self.is_open, pair.path) {
             (false, _) => Ok(()),
@@ -90,7 +90,7 @@ impl EntriesRead {
         }
     }
 
-    // The header of a table of an array.
+    // Adds the header of a table of an array.
     fn add_array_header(&mut self, path: Path, name: Part) -> Result<(), AllocError> {
         match array_role(path) {
             Some(role) if self.has_array(role) => self.add_of_script(Form::Value, path, name),
@@ -99,7 +99,7 @@ impl EntriesRead {
         }
     }
 
-    // The header of any other table, below the last one or below the script.
+    // Adds the header of any other table, which is below the last table or below the script.
     fn add_header(&mut self, path: Path, name: Part) -> Result<(), AllocError> {
         match path {
             Path::More(first, second) if Role::of_array(first) == Some(self.role) => {
@@ -111,7 +111,7 @@ impl EntriesRead {
         }
     }
 
-    // A header of a key of the script that may not have it.
+    // Adds a header at a key of the script that may not have one.
     fn add_of_script(&mut self, form: Form, path: Path, name: Part) -> Result<(), AllocError> {
         let key = first_key(path);
         self.entries.push(Entry {
@@ -126,7 +126,7 @@ impl EntriesRead {
         Ok(())
     }
 
-    // Whether the script has tables of this role as the value of a key.
+    // Whether a key of the script has tables of this role as its value.
     fn has_array(&self, role: Role) -> bool {
         for entry in &self.entries {
             let is_array = entry.role == Role::Script && entry.form == Form::Value;
@@ -137,7 +137,7 @@ impl EntriesRead {
         false
     }
 
-    // What the tables are that the value of a key may have.
+    // The role of the tables in the value of a key, if that key has an array of tables.
     fn array_at(&self, pair: Pair) -> Option<Role> {
         if self.is_open && self.role == Role::Script {
             array_role(pair.path)
@@ -171,11 +171,11 @@ fn first_key(path: Path) -> Option<Key> {
     }
 }
 
-// What is found in a text, in its order. Where the text cannot be read further the list ends.
+// The entries of a text, in its order. The list ends where the text cannot be read further.
 pub(crate) fn entries_of(alloc: Global, text: &str) -> Result<Vec<Entry>, AllocError> {
     let mut found = EntriesRead::new(alloc)?;
     let mut rest = text.strip_prefix('\u{FEFF}').unwrap_or(text);
-    // Each turn reads an octet at least.
+    // Each turn reads at least one octet.
     for _turn in 0..text.len() {
         match read_line(alloc, text, skip_blank(rest, true), &mut found)? {
             Some(behind) => rest = behind,
@@ -185,7 +185,7 @@ pub(crate) fn entries_of(alloc: Global, text: &str) -> Result<Vec<Entry>, AllocE
     Ok(found.into_entries())
 }
 
-// Reads a header, or a key with its value, and gives what is behind it; nothing where there is none.
+// Reads a header, or a key with its value, and returns the text after it, or `None` if there is neither.
 fn read_line<'t>(
     alloc: Global,
     text: &'t str,
@@ -209,7 +209,7 @@ fn read_line<'t>(
     }
 }
 
-// The keys of a header, the header as it stands, and what is behind its closing brackets.
+// The keys of a header, the header as it is in the text, and the text after its closing brackets.
 fn header_at<'t>(
     alloc: Global,
     text: &str,
@@ -226,7 +226,7 @@ fn header_at<'t>(
     }
 }
 
-// Reads a key with its value, with the tables of an array.
+// Reads a key with its value, and the tables in that value if it is an array of tables.
 fn read_pair<'t>(
     alloc: Global,
     text: &'t str,

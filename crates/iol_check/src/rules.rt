@@ -1,10 +1,10 @@
-//! Which keys a table of a script may have, and what may stand at each (docs/FORMATS.md, "Scripts").
+//! The keys that a table of a script may have, and what is allowed at each (docs/FORMATS.md, "Scripts").
 //!
-//! These words are shown, and no value is judged by them: that is for `trial`.
+//! These words are only shown. Whether a value is right is decided by `trial`.
 
 use crate::keys::Key;
 
-// What a table is; of a step, which one.
+// The kind of a table; for a step, which step it is.
 #[derive(Clone, Copy, PartialEq, Eq)]
 pub(crate) enum Kind {
     Script,
@@ -18,7 +18,7 @@ pub(crate) enum Kind {
     Stop,
 }
 
-// What may stand at a key, in words.
+// What is allowed at a key, in words.
 #[derive(Clone, Copy)]
 pub(crate) enum May {
     Words(&'static str),
@@ -28,16 +28,16 @@ pub(crate) enum May {
     ForPorts,
 }
 
-// A key of a table.
+// The rule of a key of a table.
 #[derive(Clone, Copy)]
 pub(crate) struct Rule {
-    // A value that is right, where the key has to be there.
+    // A value that is right, if the key is required.
     pub(crate) needed: Option<&'static str>,
     pub(crate) may: May,
 }
 
 impl Kind {
-    // The step that a word at `do` names.
+    // The step that a word at `do` names, if it names one.
     pub(crate) fn of_step(word: &str) -> Option<Kind> {
         match word {
             "configure" => Some(Kind::Configure),
@@ -51,7 +51,7 @@ impl Kind {
         }
     }
 
-    // The rule of a key in such a table, if it may have that key.
+    // The rule of a key in a table of this kind, if the table may have that key.
     pub(crate) fn rule(self, key: Key) -> Option<Rule> {
         match self {
             Kind::Script => of_script(key),
@@ -66,12 +66,12 @@ impl Kind {
         }
     }
 
-    // A value that is right at a key which such a table has to have.
+    // A value that is right at a key, if a table of this kind must have that key.
     pub(crate) fn right_value(self, key: Key) -> Option<&'static str> {
         self.rule(key)?.needed
     }
 
-    // Whether such a table may have a key; where it is no known step, whether any step may.
+    // Whether a table of this kind may have a key; if the table is an unknown step, whether any step may.
     pub(crate) fn has(kind: Option<Kind>, key: Key) -> bool {
         match kind {
             Some(kind) => kind.rule(key).is_some(),
@@ -82,7 +82,7 @@ impl Kind {
     }
 }
 
-// What may stand at `do`.
+// What is allowed at `do`.
 pub(crate) const STEPS: &str =
     "\"configure\", \"clear\", \"rollback\", \"port\", \"flush\", \"drain\" or \"stop\"";
 
@@ -135,7 +135,7 @@ fn of_configure(key: Key) -> Option<Rule> {
     }
 }
 
-// Of a command that names a port alone, with its word at `do`.
+// The rule of a key of a command that names only a port, with its word at `do`.
 fn of_port_command(key: Key, word: &'static str) -> Option<Rule> {
     match key {
         Key::Do => needed(word, STEPS),
@@ -176,7 +176,7 @@ fn of_stop(key: Key) -> Option<Rule> {
     }
 }
 
-// A key that has to be there, with a value that is right, and what may stand there.
+// The rule of a required key: a value that is right, and what is allowed there.
 fn needed(right: &'static str, words: &'static str) -> Option<Rule> {
     Some(Rule {
         needed: Some(right),
@@ -198,7 +198,7 @@ fn needed_slots() -> Option<Rule> {
     })
 }
 
-// A key that may be missing, with what may stand there.
+// The rule of an optional key: what is allowed there.
 fn free(words: &'static str) -> Option<Rule> {
     Some(Rule {
         needed: None,

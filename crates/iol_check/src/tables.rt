@@ -1,4 +1,4 @@
-//! The values of an array, and those of them that are tables.
+//! Finds the values of an array, and reads those that are tables.
 
 use crate::entry::Role;
 use crate::pair::pair_at;
@@ -8,7 +8,7 @@ use crate::value::value_octets;
 use std::alloc::{AllocError, Global};
 use toml_parser::text::skip_blank;
 
-// Reads the tables of an array. One that is no array has none.
+// Reads the tables of an array. A value that is not an array has none.
 pub(crate) fn read_tables(
     alloc: Global,
     text: &str,
@@ -47,7 +47,7 @@ fn read_pairs(
     Ok(())
 }
 
-// The values of an array; none of what is no array.
+// The values of an array. A value that is not an array has none.
 pub(crate) fn values_of(alloc: Global, text: &str, array: Part) -> Result<Vec<Part>, AllocError> {
     let mut values = Vec::new(alloc);
     let mut rest = array.inside(text, '[').unwrap_or("");
@@ -61,7 +61,7 @@ pub(crate) fn values_of(alloc: Global, text: &str, array: Part) -> Result<Vec<Pa
     Ok(values)
 }
 
-// The value in front of an end of a text, and what is behind it; nothing where a bracket closes.
+// The value at `start`, a suffix of `text`, and the text after it, or `None` at a closing bracket.
 fn value_at<'t>(text: &str, start: &'t str) -> Option<(Part, &'t str)> {
     let octets = value_octets(start);
     if octets == 0 {
@@ -71,7 +71,7 @@ fn value_at<'t>(text: &str, start: &'t str) -> Option<(Part, &'t str)> {
     Some((Part::between(text, start, behind), behind))
 }
 
-// What is behind a comma, with what is white around it.
+// Skips a comma, if there is one, and the blanks around it.
 fn next_in(rest: &str) -> &str {
     let rest = skip_blank(rest, true);
     match rest.strip_prefix(',') {

@@ -1,4 +1,4 @@
-//! Whether a value may stand at a key: a script that is right but for it can be run, or cannot.
+//! Decides whether a value is allowed at a key: by whether a script that is right but for that value can be run.
 ghost use Rattle.std.specs.Prelude.{◌≡◌, Ok, true, false};
 ghost use Rattle.iol_commands.specs.Runs.{CanRun};
 
@@ -7,10 +7,10 @@ use crate::rules::Kind;
 use iol_commands::{Fault, read_playable};
 use std::alloc::{AllocError, Global};
 
-// The most slots that a script may have, which are enough for any number of ports.
+// The largest number of slots that a script may have, which is enough for any number of ports.
 pub(crate) const MOST_SLOTS: u16 = 256;
 
-// Whether a value, as it stands in a script of so many ports, may stand at a key of such a table.
+// Whether a value, as it is in a script with `ports` ports, is allowed at a key of a table of this kind.
 pub(crate) fn is_right(
     alloc: Global,
     ports: i64,
@@ -22,18 +22,18 @@ pub(crate) fn is_right(
     can_be_run(alloc, script.as_str())
 }
 
-// How many ports a script has where this stands at `ports`; nothing where it may not stand there.
+// The number of ports of a script with this value at `ports`, or `None` if the value is not allowed there.
 pub(crate) fn ports_by(alloc: Global, value: &str) -> Result<Option<i64>, AllocError> {
     let script = script_with(alloc, 1, Kind::Script, Key::Ports, value)?;
     match read_playable(alloc, script.as_bytes()) {
         Ok(playable) => Ok(Some(playable.script.ports)),
         Err(Fault::Script | Fault::Geometry) => Ok(None),
-        // No other fault is one of the text.
+        // No other fault is a fault of the text.
         Err(_) => Err(AllocError),
     }
 }
 
-// The fewest slots that a script of so many ports may have.
+// The smallest number of slots that a script with `ports` ports may have.
 pub(crate) fn least_slots(alloc: Global, ports: i64) -> Result<u16, AllocError> {
     for slots in 1..MOST_SLOTS {
         let script = format!(in alloc; "ports = {ports}\nslots = {slots}\n")?;
@@ -44,7 +44,7 @@ pub(crate) fn least_slots(alloc: Global, ports: i64) -> Result<u16, AllocError> 
     Ok(MOST_SLOTS)
 }
 
-// Whether a device may have these keys and values, as they stand between the brackets of their arrays.
+// Whether a device may have these keys and values, as they are between the brackets of their arrays.
 pub(crate) fn are_parameters(alloc: Global, keys: &str, values: &str) -> Result<bool, AllocError> {
     let mut script = String::new(alloc);
     write!(script, "ports = 1\nslots = {MOST_SLOTS}\n")?;
@@ -64,12 +64,12 @@ fn can_be_run(alloc: Global, script: &str) -> Result<bool, AllocError>
     match read_playable(alloc, script.as_bytes()) {
         Ok(_) => Ok(true),
         Err(Fault::Script | Fault::Geometry) => Ok(false),
-        // No other fault is one of the text.
+        // No other fault is a fault of the text.
         Err(_) => Err(AllocError),
     }
 }
 
-// A script of so many ports with what it needs, in which a value stands at a key of such a table.
+// A script with `ports` ports and all else that it needs, which has a value at a key of a table of this kind.
 fn script_with(
     alloc: Global,
     ports: i64,
@@ -92,7 +92,7 @@ fn script_with(
     Ok(script)
 }
 
-// An array of one table, with the keys that it needs, and a value at a key of it.
+// Writes an array of one table, with the keys that the table needs, and a value at one of its keys.
 fn write_table(
     script: &mut String,
     array: Key,

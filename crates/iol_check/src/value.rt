@@ -1,9 +1,9 @@
-//! Where a value of a script ends.
+//! Finds where a value of a script ends.
 
 use toml_parser::bytes::byte_at;
 
-// How many octets in front of a text, which is TOML, are one value: up to the comma, bracket, comment or end of line that
-// ends it, without white space before that.
+// The number of octets of the value at the beginning of a text, which is TOML: up to the comma, bracket, comment or end of
+// line that ends it, without the white space before that.
 pub(crate) fn value_octets(text: &str) -> usize {
     let octets = text.as_bytes();
     let mut walk = Walk::new();
@@ -16,17 +16,17 @@ pub(crate) fn value_octets(text: &str) -> usize {
     walk.end
 }
 
-// What a walk is in.
+// The part of a value that a walk is in.
 #[derive(Clone, Copy, PartialEq, Eq)]
 enum Mode {
-    // What has no quotes.
+    // A part without quotes.
     Bare,
     Comment,
     // A text between quotes of this kind, on one line.
     Line(u8),
     // A text between three quotes of this kind.
     Lines(u8),
-    // What follows the value.
+    // The text after the value.
     Behind,
 }
 
@@ -34,11 +34,11 @@ enum Mode {
 #[derive(Clone, Copy)]
 struct Walk {
     mode: Mode,
-    // How many brackets are open.
+    // The number of open brackets.
     depth: usize,
-    // How many octets are passed over.
+    // The number of next octets to skip.
     skip: usize,
-    // How many octets the value has so far.
+    // The number of octets of the value so far.
     end: usize,
 }
 
@@ -52,7 +52,7 @@ impl Walk {
         }
     }
 
-    // The walk behind the octet at this place.
+    // The walk after the octet at this place.
     fn step(self, octets: &[u8], at: usize) -> Walk {
         if self.skip != 0 {
             return self.over(self.skip.saturating_sub(1));
@@ -95,7 +95,7 @@ impl Walk {
         }
     }
 
-    // Up to two quotes may stand within such a text, also right before the three that end it.
+    // Such a text may have up to two quotes in a row, also right before the three that end it.
     fn step_lines(self, octets: &[u8], at: usize, quote: u8) -> Walk {
         let quotes = quotes_at(octets, at, quote);
         if 3 <= quotes {
@@ -106,7 +106,7 @@ impl Walk {
         }
     }
 
-    // A backslash between double quotes keeps the next octet from being a quote.
+    // Between double quotes, the octet after a backslash is not read as a quote.
     fn escaped(self, octet: u8, quote: u8) -> Walk {
         if octet == b'\\' && quote == b'"' {
             self.over(1)
@@ -115,7 +115,7 @@ impl Walk {
         }
     }
 
-    // A text begins with a quote, or with three.
+    // Begins a text, which opens with one quote or with three.
     fn opened(self, octets: &[u8], at: usize, quote: u8) -> Walk {
         if 3 <= quotes_at(octets, at, quote) {
             self.within(Mode::Lines(quote)).over(2)
@@ -128,17 +128,17 @@ impl Walk {
         Walk { mode, ..self }
     }
 
-    // So many brackets are open.
+    // Sets the number of open brackets.
     fn below(self, depth: usize) -> Walk {
         Walk { depth, ..self }
     }
 
-    // So many of the next octets are passed over.
+    // Sets the number of next octets to skip.
     fn over(self, skip: usize) -> Walk {
         Walk { skip, ..self }
     }
 
-    // The value has all octets up to this place, and so many from there.
+    // Extends the value up to this place and by `octets` octets from there.
     fn up_to(self, at: usize, octets: usize) -> Walk {
         Walk {
             end: at.saturating_add(octets),
@@ -147,7 +147,7 @@ impl Walk {
     }
 }
 
-// How many quotes of this kind stand at a place, one behind the other.
+// The number of quotes of this kind in a row from this place on.
 fn quotes_at(octets: &[u8], at: usize, quote: u8) -> usize {
     let mut count = 0usize;
     for octet in octets.get(at..).unwrap_or(&[]) {

@@ -1,4 +1,4 @@
--- A simulated device refuses none of the parameters that it may have, one behind the other.
+-- A simulated device refuses none of the parameters that it may have, added one after another.
 use Rattle.std.proofs.Common.{◌≡◌, refl, ℕ, ◌+◌, ◌<◌, false, true, List, ◌∷◌, ◌++◌, length, get_or, take, drop, Some, None}
 use Rattle.std.proofs.Common.{is_some, ◌⊎◌, inl, inr, ap, sym, ◌∙◌, subst, arith, length-append, add-one, drop-cons}
 use Rattle.std.specs.Prelude.{nat_lt}
@@ -34,7 +34,7 @@ next_accepted before entry behind are =
     let few : nat_lt (length before) MOST_PARAMETERS ≡ true = grind (arith, nat_tests, fewer) in
     rw (free, long, absent, few) refl
 
--- the parameter at a place is accepted behind those before it
+-- the parameter at a place is accepted after those before it
 pub accepted : (parameters : List Parameter) (place : ℕ) (parameter : Parameter) → place < length parameters
     → parameter ≡ get_or parameters place parameter → AreParameters (entries_of parameters)
     → add_fault (entries_of (take place parameters)) parameter.key parameter.octets.items ≡ None
@@ -53,7 +53,7 @@ accepted parameters place parameter there is are =
     whole : entries_of parameters ≡ entries_of (take place parameters) ++ entry_of parameter ∷ entries_of (drop (place + 1) parameters)
     whole = ap entries_of parted ∙ map-append entry_of (take place parameters) (parameter ∷ drop (place + 1) parameters)
 
--- where nothing else refuses a parameter, only memory is missing
+-- if nothing else refuses a parameter, the only fault is memory
 pub only_memory : (before : List Entry) (key : Key) (octets : List ℕ) (fault : DeviceFault) → add_fault before key octets ≡ None
     → (add_fault before key octets ≡ Some fault) ⊎ ((add_fault before key octets ≡ None) × (fault ≡ Memory)) → fault ≡ Memory
 only_memory before key octets fault none (inl refused) = cc

@@ -1,4 +1,4 @@
--- What a format leaves, where an erasure came before it.
+-- What a format leaves after an erasure.
 use Rattle.std.proofs.Common.{◌≡◌, ◌⊎◌, inl, inr, IsTrue, Bool, true, false, ◌&&◌, ℕ, sym, subst}
 use Rattle.iol_disk.specs.Content.{Image, IsImage, reads}
 use Rattle.iol_disk.specs.Disk.{Disk, Shows}
@@ -37,7 +37,7 @@ second_holds false two both = absurd (untrue both)
     untrue : false ≡ true → ⊥
     untrue wrong = cc
 
--- a journal that is there, behind an open gate of a disk large enough, stays where it is not erased
+-- an existing journal, with an open gate and on a disk large enough, is kept if it is not erased
 pub kept_unforced : (large : Bool) (is_open : Image → Bool) (old between new : Disk) → between ≡ old
     → (Shows between (λ image. is_open image ≡ true) → LeavesOnly between new (IsImage between.content))
     → Shows old (λ image. (large && is_open image) ≡ true) → LeavesOnly old new (IsImage old.content)

@@ -1,4 +1,4 @@
--- The run of a script begins with an empty journal, and what is recovered behind its stop holds all that was acknowledged.
+-- The run of a script begins with an empty journal, and what is recovered after its stop holds all that was acknowledged.
 use Rattle.std.proofs.Common.{◌≡◌, ◌≤◌, ◌+◌, ℕ, IsTrue, List, length, take, inr, Result, Ok, ap, sym, ◌∙◌, subst, arith}
 use Rattle.std.proofs.lemmas.List.{take_all, length-replicate}
 use Rattle.iol_types.specs.State.{State, after, empty_state, blank}
@@ -28,7 +28,7 @@ empty_read : (given : Disk) (g : Geometry) → IsTrue given.honest → EachIsEmp
     → KeptMeans given.sectors 0 (empty_state g.ports) (reads given.content)
 empty_read given g honest empty = (empty honest (reads given.content) (reads-is_image given.content)).empty
 
--- how a journal stands on it
+-- its journal has number 0 and the empty state
 begins : (given : Disk) (g : Geometry) (journal : Standing) → IsTrue given.honest → EachIsEmptyJournal given g
     → standing_in given.sectors (reads given.content) ≡ Ok journal → (journal.number ≡ 0) × (journal.state ≡ empty_state g.ports)
 begins given g journal honest empty stands =
@@ -81,7 +81,7 @@ holds disk said geometry given trace image number state honest last run left mea
     counted : prefix.count ≡ number
     counted = omega (arith, same.0)
 
--- and this is what a journal that stands so means
+-- what an image with this journal means
 pub means_so : (sectors : ℕ) (image : Image) (journal : Standing) (number : ℕ) (state : State) → standing_in sectors image ≡ Ok journal
     → number ≡ journal.number → state ≡ journal.state → meaning sectors image ≡ Ok (record { number = number; state = state })
 means_so sectors image journal number state stands counted same =

@@ -25,11 +25,11 @@ use Rattle.iol_sim.specs.Parameters.{AreParameters}
 use Rattle.iol_commands.proofs.SaidParameters.{map_some, of_a_device}
 use Rattle.iol_commands.specs.Devices.{MayVisit}
 
--- its parameters are such
+-- the parameters of a device are such parameters
 abbrev IsSound : SaidDevice → Type 0
 IsSound said = AreParameters said.parameters
 
--- what a test lets through was there without it
+-- what a test lets through is the value that was there
 let_through : {A : Type 0} (test : Bool) (o : Option A) (y : A) → cond test o None ≡ Some y → o ≡ Some y
 let_through true o y is = is
 let_through false o y is = cc
@@ -43,7 +43,7 @@ parameters_sound table parameters is =
     option_and_then_some of_device (parameters_of keys values) parameters both (λ all read sound.
     of_a_device keys values all parameters read sound)))
 
--- what is said of a device besides its parameters leaves them as they are
+-- what a script says about a device besides its parameters leaves the parameters as they are
 parameters_kept : (parameters : List Entry) (table : Members) (said : SaidDevice) → device_with parameters table ≡ Some said → parameters
     ≡ said.parameters
 parameters_kept parameters table said is =
@@ -77,13 +77,13 @@ devices_sound (item value values) devices is =
     map_some (λ (others : List SaidDevice). device ∷ others) (devices_of values) devices rest (λ others more same.
     subst (AllByRecursion IsSound) same (device_sound value device first, devices_sound values others more)))
 
--- what a script says besides its devices leaves them as they are
+-- what a script says besides its devices leaves the devices as they are
 devices_kept : (ports slots : ℤ) (fail : Option FailingCall) (devices : List SaidDevice) (values : Items) (said : Said)
     → said_with ports slots fail devices values ≡ Some said → devices ≡ said.devices
 devices_kept ports slots fail devices values said is =
     map_some _ (steps_of (before_stop values).0) said is (λ steps _ same. ap (λ (s : Said). s.devices) same)
 
--- the devices of a script are those that the values of its table say
+-- the devices of a script are those in the values of its table
 said_sound : (said : Said) (values : Option Items) (devices : List SaidDevice) → option_and_then devices_of values ≡ Some devices
     → devices ≡ said.devices → AllByRecursion IsSound said.devices
 said_sound said values devices there same =
@@ -100,7 +100,7 @@ table_sound table said is =
     option_and_then_some _ (values_at (codes "step") table) said is (λ steps _ is.
     said_sound said values devices there (devices_kept ports slots fail devices steps said is))))))
 
--- the same of a script for a master that runs in threads
+-- the same for a script for a master that runs in threads
 live_sound : (table : Members) (said : SaidLive) → live_by table ≡ Some said → AllByRecursion IsSound said.devices
 live_sound table said is =
     let values = values_at (codes "device") table in

@@ -1,4 +1,4 @@
--- The parameters that a script says are such as a simulated device may have.
+-- The parameters in a script are parameters that a simulated device may have.
 use Rattle.std.proofs.Common.{◌≡◌, refl, ℕ, ◌<◌, ◌≤◌, ◌^◌, Bool, true, false, ◌&&◌, ◌||◌, not, if◌then◌else◌, List, [], ◌∷◌, length, Option}
 use Rattle.std.proofs.Common.{Some, None, subst, arith}
 use Rattle.std.specs.Prelude.{ℤ, pos, negsuc, nat_lt, nat_le, option_and_then, option_map}
@@ -21,7 +21,7 @@ use Rattle.iol_script.specs.Parameters.{parameters_of, are_distinct, of_device}
 use Rattle.iol_script.specs.declared.parameters.TheConstants.{MOST_PARAMETERS}
 use Rattle.iol_sim.specs.Parameters.{AreParameters}
 
--- ---- what an option says that a function makes of another
+-- ---- the option that a function makes of another
 
 pub map_some : {A B P : Type 0} (f : A → B) (o : Option A) (y : B) → option_map f o ≡ Some y → ((x : A) → o ≡ Some x → f x ≡ y → P) → P
 map_some f None y is found = cc
@@ -106,7 +106,7 @@ of_parameters (item key keys) (item value values) parameters is =
     map_some (λ (others : List Entry). entry ∷ others) (parameters_of keys values) parameters rest (λ others more same.
     subst (AllByRecursion IsEntry) same (of_parameter key value entry first, of_parameters keys values others more)))
 
--- ---- no key stands twice
+-- ---- all keys are distinct
 
 apart_from : (key : Key) (keys : List Key) → list_any (same_key key) keys ≡ false
     → AllByRecursion (λ other. same_key key other ≡ false) keys
@@ -130,7 +130,7 @@ distinct_are (key ∷ keys) are =
     none true is = cc
     none false is = refl
 
--- parameters that a device of a script may have are parameters that a simulated device may have
+-- the parameters that a device of a script may have are parameters that a simulated device may have
 pub of_a_device : (keys values : Items) (all parameters : List Entry) → parameters_of keys values ≡ Some all → of_device all
     ≡ Some parameters
     → AreParameters parameters

@@ -1,4 +1,4 @@
--- The lines of one event more.
+-- The lines with one more event.
 use Rattle.std.proofs.Common.{◌≡◌, refl, ℕ, ◌+◌, ◌<◌, List, [], ◌∷◌, ◌++◌, length, take, get_or, sym, ap, ◌∙◌, append_assoc}
 use Rattle.std.proofs.Common.{append-nil}
 use Rattle.std.specs.Prelude.{Option, None}
@@ -8,7 +8,7 @@ use Rattle.iol_run.specs.declared.run.Stamped.{Stamped}
 use Rattle.iol_core.specs.Events.{Event}
 use Rattle.iol_commands.specs.Lines.{lost_in, lines_behind, lines_from, lines_of, events_of}
 
--- the port whose device the last of events tells as lost
+-- the port whose device the last of the events reports as lost
 abbrev pub lost_after : Option ℕ → List Event → Option ℕ
 lost_after lost [] = lost
 lost_after lost (event ∷ events) = lost_after (lost_in event) events

@@ -13,7 +13,7 @@ use Rattle.iol_sim.specs.SimLink.{Sim, VisitValue, visit_of}
 abbrev pub MayVisit : script.Device → Type 0
 MayVisit device = AreParameters (entries_of device.parameters.items)
 
--- a device as a script says it, but without parameters (format, Scripts)
+-- a device as a script describes it, but without parameters (format, Scripts)
 abbrev pub bare_device : SaidDevice → Device
 bare_device said = record {
   vendor = said.vendor;
@@ -26,11 +26,11 @@ bare_device said = record {
   event = false;
 }
 
--- a device as a script says it (format, Scripts)
+-- a device as a script describes it (format, Scripts)
 abbrev pub simulated : SaidDevice → Device
 simulated said = record (bare_device said) { parameters = said.parameters }
 
--- the visit of a device: how many calls it answers until it is lost, and after how many it wants an upload
+-- the visit of a device: the number of calls that it answers until it is lost, and after which it requests an upload
 -- (format, Scripts)
 abbrev pub visit_by : SaidDevice → VisitValue
 visit_by said = visit_of (simulated said) said.answers said.event
@@ -43,7 +43,7 @@ link_at port devices = record {
   connection = 0;
 }
 
--- a link for each of so many ports, port 1 first (own)
+-- a link for each of this number of ports, port 1 first (own)
 abbrev pub links_of : ℕ → List SaidDevice → List Sim
 links_of zero devices = []
 links_of (suc ports) devices = links_of ports devices ++ link_at (suc ports) devices ∷ []

@@ -11,8 +11,7 @@ use Rattle.iol_journal.specs.RecoverCause.TheVariants as cause
 use Rattle.iol_script.specs.declared.script.ScriptFault.{ScriptFault}
 use Rattle.iol_script.specs.declared.script.ScriptFault.TheVariants as script
 
--- the exit status of a fault: 2 where what the user wrote is not valid, and 1 where a command that is valid fails
--- (format, Texts)
+-- the exit status of a fault: 2 if what the user wrote is not valid, and 1 if a valid command fails (format, Texts)
 abbrev pub status_of : Fault → ℕ
 status_of Words = 2
 status_of Script = 2
@@ -41,19 +40,19 @@ fault_text Geometry = codes "the geometry is not valid"
 abbrev pub fault_line : Fault → List ℕ
 fault_line fault = codes "error: " ++ (fault_text fault ++ codes "\n")
 
--- why a command fails whose script cannot be read (format, Texts)
+-- why a command fails if its script cannot be read (format, Texts)
 abbrev pub fault_for : ScriptFault → Fault
 fault_for script.NotValid = Script
 fault_for script.Memory = Memory
 
--- why a command fails whose disk is not formatted (format, Texts)
+-- why a command fails if its disk cannot be formatted (format, Texts)
 abbrev pub unformatted : FormatFault → Fault
 unformatted format.TooSmall = TooSmall
 unformatted format.AlreadyFormatted = AlreadyFormatted
 unformatted format.Memory = Memory
 unformatted (format.Disk fault) = Disk
 
--- why a command fails whose disk is not recovered (format, Texts)
+-- why a command fails if its disk cannot be recovered (format, Texts)
 abbrev pub unrecovered : RecoverCause → Fault
 unrecovered (cause.Disk fault) = Disk
 unrecovered cause.NotFormatted = NotFormatted

@@ -14,8 +14,8 @@ use Rattle.iol_texts.specs.Recovered.{recovered_text}
 abbrev pub octets_line : ℕ → List ℕ → List ℕ → List ℕ
 octets_line port sign octets = codes "port " ++ (decimal port ++ (codes " " ++ (sign ++ (spaced octets ++ codes "\n"))))
 
--- the lines of an event: two of an exchange and of a loss at a request that was sent, none of the work that a port is
--- told, and else one (format, Texts)
+-- the lines of an event: two of an exchange and of a loss at a request that was sent, none of the work that is reported to a
+-- port, and one of any other (format, Texts)
 abbrev pub event_text : Event → List ℕ
 event_text (Accepted number command) = codes "accepted " ++ (decimal number ++ codes "\n")
 event_text (Refused refusal) = codes "refused " ++ (refusal_name refusal ++ codes "\n")
@@ -28,21 +28,21 @@ event_text (Changed port status) = codes "port " ++ (decimal port ++ (codes " " 
 event_text (Acknowledged number) = codes "acknowledged " ++ (decimal number ++ codes "\n")
 event_text DiskFailed = codes "disk failed\n"
 
--- the port whose device an event tells as lost (own)
+-- the port whose device an event reports as lost (own)
 abbrev pub lost_in : Event → Option ℕ
 lost_in (Lost port connection request) = Some port
 lost_in event = None
 
--- an event is the status of a port whose loss the event before it told (own)
+-- an event is the status of a port whose loss the event before it reported (own)
 abbrev pub is_said : Event → Option ℕ → Bool
 is_said (Changed port trace.Lost) (Some lost) = lost == port
 is_said event lost = false
 
--- the lines of an event behind another, which may have told a loss: it is not told twice (format, Texts)
+-- the lines of an event after another, which may have reported a loss: the loss is not printed twice (format, Texts)
 abbrev pub lines_behind : Option ℕ → Event → List ℕ
 lines_behind lost event = if is_said event lost then [] else event_text event
 
--- the lines of events, the first of them behind another (format, Texts)
+-- the lines of events, the first of which comes after another (format, Texts)
 abbrev pub lines_from : Option ℕ → List Event → List ℕ
 lines_from lost [] = []
 lines_from lost (event ∷ events) = lines_behind lost event ++ lines_from (lost_in event) events

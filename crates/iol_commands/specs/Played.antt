@@ -1,4 +1,4 @@
--- A script that was played: the run that it asked for, and what was recovered of the run's disk.
+-- A script that was run: the run that it asked for, and what was recovered from the run's disk.
 use Rattle.std.specs.Prelude.{◌≡◌, ◌≤◌, ℕ, pos, List, length, take, Option, Some, None, Ok, IsSomeAnd}
 use Rattle.iol_types.specs.State.{State, after, empty_state}
 use Rattle.iol_disk.specs.Content.{IsImage, reads}
@@ -42,8 +42,8 @@ abbrev pub FailsAsSaid : Option FailingCall → FaultDisk MemoryDisk → Type 0
 FailsAsSaid None disk = due_of disk ≡ due_at None
 FailsAsSaid (Some call) disk = (kind_of disk ≡ call.kind) × (due_of disk ≡ due_at (Some call))
 
--- the run that a script asks for: of its tasks, all of them, over an empty journal of its ports and slots, with its devices at the
--- ports (format, Scripts)
+-- the run that a script asks for: all of its tasks, over an empty journal of its ports and slots, with its devices at the ports
+-- (format, Scripts)
 pub record IsRunOf {D : Type 0} (disk : D → Disk) (said : Said) (geometry : Geometry) (given : D) (trace : Trace D Sim) : Type 0 where
   pub empty : EachIsEmptyJournal (disk given) geometry
   pub headline : IsHeadline disk (λ (link : Sim). link.connection) SimStep given (links_of geometry.ports said.devices)
@@ -58,15 +58,15 @@ pub record IsStoppedAs (keep : Pick) (last : MemoryDisk) (number : ℕ) (state :
   pub means : meaning (memory.memory_disk stopped).sectors (reads (memory.memory_disk stopped).content)
       ≡ Ok (record { number = number; state = state })
 
--- a state is that after the first of the commands that were accepted, from an empty state on: so many that those that were
--- acknowledged are among them (own)
+-- a state is the one after the first `number` accepted commands, from an empty state on, and these include all acknowledged ones
+-- (own)
 pub record HoldsAcknowledged (ports : ℕ) (events : List Stamp) (number : ℕ) (state : State) : Type 0 where
   pub within : number ≤ length (accepted events)
   pub reaches : acked 0 events ≤ number
   pub state_is : state ≡ after (empty_state ports) (take number (accepted events))
 
--- a script was played: its run was made, with its disk call failing, its power was stopped, and what was recovered holds all that
--- was acknowledged (own)
+-- a script was run: its run was made with its disk call failing, its power was stopped, and what was recovered holds all that was
+-- acknowledged (own)
 pub record IsPlayed (said : Said) (report : Report) : Type 0 where
   pub geometry : Geometry
   pub given : FaultDisk MemoryDisk
@@ -78,11 +78,11 @@ pub record IsPlayed (said : Said) (report : Report) : Type 0 where
   pub stopped : IsStoppedAs said.keep (inner trace.disk) report.recovered.number report.recovered.state
   pub holds : HoldsAcknowledged geometry.ports (told_in trace) report.recovered.number report.recovered.state
 
--- what is printed of a run that was played (format, Texts)
+-- what is printed of a run that was made (format, Texts)
 abbrev pub played_text : Report → List ℕ
 played_text report = report_text (events_of report.events.items) report.recovered.number report.recovered.state
 
--- a text tells a script's run: the events of a run that was played, that the power stopped, and the state that was recovered
+-- a text is that of a script's run: the events of the run, that the power stopped, and the state that was recovered
 -- (format, Texts)
 pub record TellsRun (script text : List ℕ) : Type 0 where
   pub report : Report

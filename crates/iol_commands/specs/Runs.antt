@@ -7,7 +7,7 @@ use Rattle.iol_commands.specs.Played.{TellsRun}
 use Rattle.iol_commands.specs.declared.fault.Fault.{Fault}
 use Rattle.iol_commands.specs.declared.fault.Fault.TheVariants.{Words, Script, Geometry, Memory}
 
--- what a script says can be run: its devices and the steps of its ports are at its ports, and these and the slots are
+-- what a script says can be run: its devices and the steps of its ports are at its ports, and its ports and slots are
 -- the numbers of a geometry (format, Scripts)
 abbrev pub MayRun : Said → Type 0
 MayRun said = (fits_ports said ≡ true) × HasGeometry said.ports said.slots
@@ -16,8 +16,8 @@ MayRun said = (fits_ports said ≡ true) × HasGeometry said.ports said.slots
 abbrev pub CanRun : List ℕ → Type 0
 CanRun text = IsText text × IsSomeAnd (said_in text) MayRun
 
--- why a text was not run: it is no script, or a port of it is not there; it is one, but its numbers are no geometry; or
--- it can be run, and the run failed. Memory may run out over any text (format, Texts)
+-- why a text was not run: it is no script, or a device or a step of a port is not at its ports; its numbers are no geometry; or
+-- it can be run, and the run failed. The command may run out of memory for any text (format, Texts)
 abbrev pub IsCause : List ℕ → Fault → Type 0
 IsCause text Script = IsText text → IsSomeAnd (said_in text) (λ said. fits_ports said ≡ true) → ⊥
 IsCause text Geometry =
@@ -26,8 +26,8 @@ IsCause text Memory = IsText text
 IsCause text Words = ⊥
 IsCause text fault = CanRun text
 
--- a text is not run, or its run is not printed in the way that is asked for: a fault is why, with this status, and nothing is
--- written to the output; or there was something to print, writing the output failed, and nothing is told beside it (format, Texts)
+-- a text is not run, or its run is not printed in the form asked for: a fault with this status is the cause, and nothing is written
+-- to the output; or there is a text to print, writing it failed, and nothing is written to the error output (format, Texts)
 abbrev pub IsSilentOver : {O E : Type 0} → (List ℕ → List ℕ → Type 0) → List ℕ → ℕ → O → O → E → E → Type 0
 IsSilentOver Tells text status out written err told =
     ((fault : Fault) × IsCause text fault × (status ≡ status_of fault) × (written ≡ out))

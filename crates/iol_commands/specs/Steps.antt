@@ -1,4 +1,4 @@
--- What the steps of a script make of a run.
+-- The tasks of a run that the steps of a script ask for.
 use Rattle.std.specs.Prelude.{List, map}
 use Rattle.iol_types.specs.declared.command.Change.TheVariants as change
 use Rattle.iol_run.specs.declared.task.Task.{Task}

@@ -15,10 +15,10 @@ use iol_script::Script;
 use std::alloc::Global;
 use std::io::{self, Write};
 
-/// Runs a script on a disk in memory, and returns the exit status: 0 once its trace and the recovered state are written
-/// to `out`, 2 where the script or its geometry is not valid, and else 1.
+/// Runs a script on a disk in memory, and returns the exit status: 0 if its trace and the recovered state are written
+/// to `out`, 2 if the script or its geometry is not valid, and 1 otherwise.
 ///
-/// Where the run fails, a line on `err` says why, and nothing is written to `out`. Where writing to `out` fails, nothing
+/// If the run fails, a line on `err` says why, and nothing is written to `out`. If writing to `out` fails, nothing
 /// is written to `err`.
 pub fn run_text<W: Write, E: Write>(alloc: Global, script: &[u8], out: &mut W, err: &mut E) -> u8
     ensures statuses { result ≤ 2 }
@@ -27,9 +27,9 @@ pub fn run_text<W: Write, E: Write>(alloc: Global, script: &[u8], out: &mut W, e
     ensures quiet { result ≡ 0 → err.new ≡ err.old }
     ensures not_valid { result ≡ 2 → CanRun script.now → ⊥ }
     ensures untouched { result ≡ 2 → out.new ≡ out.old }
-    // What is written is a run that was played: of the script, with what was recovered behind its stop.
+    // The text written is that of a run of the script, with what was recovered after its stop.
     ensures printed { result ≡ 0 → (text : List ℕ) × TellsRun script.now text × Appends (W.contents out.old) (W.contents out.new) text }
-    // Else a fault is why, and nothing is written to `out`; or writing to `out` failed.
+    // Otherwise a fault is the cause, and nothing is written to `out`; or writing to `out` failed.
     ensures silent { (result ≡ 0 → ⊥) → IsSilent script.now result out.old out.new err.old err.new }
 {
     match play(alloc, script) {
@@ -38,15 +38,15 @@ pub fn run_text<W: Write, E: Write>(alloc: Global, script: &[u8], out: &mut W, e
     }
 }
 
-/// A script that can be run, and the geometry of its numbers.
+/// A script that can be run, and the geometry that its numbers give.
 #[derive(Drop)]
 pub struct Playable {
     pub script: Script,
     pub geometry: Geometry,
 }
 
-/// The script that a text is, and its geometry. The text is judged first, then whether its ports are there, then its
-/// numbers.
+/// Reads a script and its geometry from a text. It checks the text first, then whether the devices and the steps of ports
+/// are at the script's ports, then the numbers of ports and slots.
 ///
 /// # Errors
 /// `Script`, `Geometry` or `Memory`.
@@ -65,7 +65,7 @@ pub fn read_playable(alloc: Global, text: &[u8]) -> Result<Playable, Fault<'stat
     Ok(Playable { script, geometry })
 }
 
-// Plays the run of a script.
+// Runs the script in a text.
 fn play(alloc: Global, text: &[u8]) -> Result<Report, Fault<'static>>
     ensures ran { OnOk result (CanRun text.now) }
     ensures printed { IfOk result (λ played. TellsRun text.now (played_text played)) }
@@ -76,8 +76,8 @@ fn play(alloc: Global, text: &[u8]) -> Result<Report, Fault<'static>>
     Ok(played)
 }
 
-// Writes what is printed of a run, and returns the exit status: 0, or 1 where the writing fails. The text is written as it is
-// made, and not kept.
+// Writes the text of a run, and returns the exit status: 0, or 1 if writing fails. The text is written piece by piece, and
+// not kept.
 fn print_played<W: Write>(out: &mut W, played: &Report) -> u8
     ensures status { (result ≡ 0) ⊎ (result ≡ 1) }
     ensures written { result ≡ 0 → Appends (W.contents out.old) (W.contents out.new) (played_text played.now) }
@@ -95,7 +95,7 @@ fn write_played<W: Write>(out: &mut W, played: &Report) -> io::Result<()>
     out.flush()
 }
 
-// Writes a command's output, and returns the exit status: 0, or 1 where the writing fails.
+// Writes a command's output, and returns the exit status: 0, or 1 if writing fails.
 pub fn print<W: Write>(out: &mut W, text: &[u8]) -> u8
     ensures status { (result ≡ 0) ⊎ (result ≡ 1) }
     ensures written { result ≡ 0 → Appends (W.contents out.old) (W.contents out.new) text.now }
@@ -113,7 +113,7 @@ fn write_through<W: Write>(out: &mut W, text: &[u8]) -> io::Result<()>
     out.flush()
 }
 
-// Writes why a command failed, and returns its exit status, also where the writing fails.
+// Writes why a command failed, and returns its exit status, even if writing fails.
 pub fn report<E: Write>(err: &mut E, fault: &Fault<'_>) -> u8
     ensures status { result ≡ status_of fault.now }
     ensures small { result ≤ 2 }

@@ -10,8 +10,8 @@ use iol_script::{Device, Parameter};
 use iol_sim::{DeviceFault, SimDevice, SimLink, Visit};
 use std::alloc::{AllocError, Global};
 
-// A link for each port, port 1 first, to the devices that a script has there, in its order. At a port without devices
-// each call is lost.
+// Makes a link for each port, port 1 first, to the devices that a script has there, in its order. At a port without
+// devices each call is lost.
 //
 // # Errors
 // `Memory`.
@@ -27,7 +27,7 @@ pub fn links_of(alloc: Global, devices: &[Device], ports: u8) -> Result<Vec<SimL
     Ok(links)
 }
 
-// The link to the devices at a port.
+// Makes the link to the devices at a port.
 fn link_at(alloc: Global, devices: &[Device], port: u8) -> Result<SimLink, AllocError>
     requires { All MayVisit devices.now }
     ensures { IfOk result (λ link. link ≡ link_at port (said_devices devices.now)) }
@@ -41,7 +41,7 @@ fn link_at(alloc: Global, devices: &[Device], port: u8) -> Result<SimLink, Alloc
     Ok(SimLink::new(visits))
 }
 
-// The visit of a device, as it begins.
+// The visit of a device, at its beginning.
 fn visit_of(alloc: Global, device: &Device) -> Result<Visit, AllocError>
     requires { MayVisit device.now }
     ensures { IfOk result (λ visit. visit ≡ visit_by (said_device device.now)) }
@@ -50,7 +50,7 @@ fn visit_of(alloc: Global, device: &Device) -> Result<Visit, AllocError>
     Ok(Visit::new(simulated, device.answers, device.event))
 }
 
-// A device as a script says it, but without parameters.
+// A device as a script describes it, but without parameters.
 fn bare_device(alloc: Global, device: &Device) -> SimDevice
     ensures { result ≡ bare_device (said_device device.now) }
 {
@@ -85,7 +85,7 @@ fn with_parameters(bare: SimDevice, parameters: &[Parameter]) -> Result<SimDevic
     Ok(device)
 }
 
-// Memory is the only reason why a parameter that the device may have is not added.
+// Adding a parameter that the device may have fails only if it is out of memory.
 fn out_of_memory(fault: DeviceFault) -> AllocError
     requires { fault ≡ DeviceFault.Memory }
 {

@@ -1,4 +1,4 @@
-//! The disk that a run is made on.
+//! The disk of a run.
 ghost use Rattle.std.specs.Prelude.{◌≡◌};
 ghost use Rattle.iol_disk.specs.FaultDisk.{inner};
 ghost use Rattle.iol_commands.specs.Played.{FailsAsSaid};
@@ -6,7 +6,7 @@ ghost use Rattle.iol_commands.specs.Played.{FailsAsSaid};
 use iol_disk::{DiskFault, FaultDisk, MemoryDisk};
 use iol_script::FailingCall;
 
-// The disk, where the call that a script names fails; without such a call none does.
+// Makes the call fail that a script names. If it names none, no call fails.
 pub(crate) fn failing(disk: MemoryDisk, fail: Option<FailingCall>) -> FaultDisk<MemoryDisk>
     ensures disk { inner result ≡ disk }
     ensures fails { FailsAsSaid fail result }

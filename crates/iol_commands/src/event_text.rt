@@ -9,8 +9,8 @@ use iol_texts::{Spaced, StatusText, refusal_name};
 use iol_types::PortId;
 use std::fmt;
 
-// The lines of an event: one, or two for an exchange and for a request that was lost. What the core answers to a port
-// has none.
+// Writes the lines of an event: one, or two for an exchange and for a request that was lost. What the core reports to a
+// port has none.
 pub(crate) fn write_event<W: fmt::Write>(f: &mut fmt::Formatter<W>, event: &Event) -> fmt::Result
     ensures { WritesOnOk W.write_str_gives f.old result (event_text (event_of event.now)) f.new }
 {
@@ -37,7 +37,7 @@ pub(crate) fn write_event<W: fmt::Write>(f: &mut fmt::Formatter<W>, event: &Even
     }
 }
 
-// The line of a port with a word or a sign and octets, each behind a space.
+// Writes the line of a port: a word or a sign, and the octets, each after a space.
 fn write_octets<W: fmt::Write>(
     f: &mut fmt::Formatter<W>,
     port: PortId,

@@ -1,4 +1,5 @@
-//! Lines of a trace and of faults, worked out by the check: a text that is wrong in a definition and in the code alike is refused here.
+//! Worked examples of lines of a trace and of faults, evaluated by the check: they catch a text that is wrong both in a definition
+//! and in the code.
 ghost use Rattle.std.specs.Prelude.{◌≡◌, [], ◌∷◌, map, codes, Some, None};
 ghost use Rattle.iol_types.specs.Command.{Clear};
 ghost use Rattle.iol_core.specs.Events as event;
@@ -20,7 +21,7 @@ pub fn events()
     ensures failed { event_text event.DiskFailed ≡ codes "disk failed\n" }
 {}
 
-/// A loss is not told twice: the status behind it has no line of its own, but that of another port has one.
+/// A loss is printed once: the status after it has no line of its own, but that of another port has one.
 pub fn losses()
     ensures once { lines_of (event.Lost 1 0 None ∷ event.Changed 1 trace.Lost ∷ []) ≡ codes "port 1 lost\n" }
     ensures of_another_port { lines_of (event.Lost 1 0 None ∷ event.Changed 2 trace.Lost ∷ []) ≡ codes "port 1 lost\nport 2 lost\n" }

@@ -10,26 +10,26 @@ use std::alloc::{AllocError, AllocFailed};
 use std::error::Error;
 use std::fmt;
 
-// Why a command fails. The text of each stands on standard error after `error: `.
+// Why a command fails. The text of each fault is printed on standard error after `error: `.
 #[derive(Clone, Copy, Debug, PartialEq, Eq)]
 pub enum Fault<'a> {
     /// The disk has no journal.
     NotFormatted,
     /// The disk has a journal already.
     AlreadyFormatted,
-    /// The disk has too few sectors for the geometry, or one of an older layout keeps no slot in the layout that is written.
+    /// The disk has too few sectors for the geometry, or a disk of an older layout keeps no slot in the layout that is written.
     TooSmall,
     /// This sector holds what no journal writes.
     Damaged { sector: usize },
     /// A call of the disk failed.
     Disk,
-    /// Memory ran out.
+    /// Out of memory.
     Memory,
     /// A word of the command line is not UTF-8.
     Words,
-    /// The file at this path cannot be opened, read or made.
+    /// The file at this path cannot be opened, read, made or written.
     File { path: &'a str },
-    /// The image is open already, by this program or another.
+    /// The image is already open, by this program or another.
     InUse,
     /// A thread of a running master could not start.
     Thread,
@@ -37,7 +37,7 @@ pub enum Fault<'a> {
     Call,
     /// The script has a device at a port that the image does not have.
     Fit,
-    /// A port has a driver and is not there, or has a simulated device too.
+    /// A port that has a driver does not exist, or has a simulated device too.
     Drivers,
     /// The text is not a script.
     Script,
@@ -75,7 +75,7 @@ impl fmt::Display for Fault<'_> {
 }
 
 impl Fault<'_> {
-    // The exit status: 2 where the words, the script or its geometry are not valid, and else 1.
+    // The exit status: 2 if the words, the script or its geometry are not valid, and 1 otherwise.
     pub fn status(&self) -> u8
         ensures status { result ≡ status_of self.now }
         ensures small { result ≤ 2 }

@@ -1,4 +1,4 @@
-//! Image files: opened or made, formatted, and shown.
+//! Opens, makes, formats and shows image files.
 ghost use Rattle.std.specs.Prelude.{◌≡◌, ◌⊎◌, true, false, Ok, IfOk, IfErr, IsOk, OnOk, string_bytes};
 ghost use Rattle.iol_disk.specs.Content.{IsImage};
 ghost use Rattle.iol_disk.specs.Moments.{LeavesOnly};
@@ -52,7 +52,7 @@ pub(crate) fn opened_or_made<'a, F: FileExt + OpenFile + LockFile + Drop, R: Fil
     }
 }
 
-// Why the image file at this path is not used.
+// The fault of a command that cannot use the image file at this path.
 fn of_image(fault: ImageFault, path: &str) -> Fault<'_>
     ensures cause { IsFileCause fault result }
     ensures status { status_of result ≡ 1 }
@@ -65,10 +65,11 @@ fn of_image(fault: ImageFault, path: &str) -> Fault<'_>
     }
 }
 
-// Formats a disk, and says how many sectors its journal takes. Where that is forced, its journal is erased first.
+// Formats a disk, and returns the text with the number of sectors that its journal takes. With `force`, its journal is
+// erased first.
 //
 // # Errors
-// `TooSmall`, `AlreadyFormatted` or `Memory`, or `Disk` where a disk call fails.
+// `TooSmall`, `AlreadyFormatted` or `Memory`, or `Disk` if a disk call fails.
 pub fn format_disk<D: SectorDisk>(
     alloc: Global,
     disk: &mut D,
@@ -78,7 +79,7 @@ pub fn format_disk<D: SectorDisk>(
     ensures text { IfOk result (λ text. string_bytes text ≡ formatted_text geometry) }
     // Each image is an empty journal of this geometry.
     ensures done { OnOk result (EachIsEmptyJournal (D.disk disk.new) geometry) }
-    // A journal that is there stays, unless its end is forced.
+    // Without `force`, an existing journal is kept.
     ensures kept { force ≡ false → Shows (D.disk disk.old) (λ image. is_formatted (D.disk disk.old).sectors image ≡ true)
         → LeavesOnly (D.disk disk.old) (D.disk disk.new) (IsImage (D.disk disk.old).content) }
     // At any moment each image means what one meant before, or is not formatted, or is an empty journal of this geometry.
@@ -93,7 +94,7 @@ pub fn format_disk<D: SectorDisk>(
     Ok(format!(in alloc; "formatted {sectors} sectors\n")?)
 }
 
-// Erases a disk, where that is forced.
+// Erases the journal of a disk, if `force` is set.
 fn erase_if_forced<D: SectorDisk>(disk: &mut D, force: bool) -> Result<(), DiskFault>
     ensures untouched { force ≡ false → (disk.new ≡ disk.old) × IsOk result }
     ensures any_moment { LeavesOnly (D.disk disk.old) (D.disk disk.new)
@@ -106,14 +107,14 @@ fn erase_if_forced<D: SectorDisk>(disk: &mut D, force: bool) -> Result<(), DiskF
     }
 }
 
-// What is recovered of a disk, or why nothing is, and the disk after the recovery.
+// What is recovered from a disk, or why nothing is, and the disk after the recovery.
 #[derive(Drop)]
 pub struct Shown<D: SectorDisk> {
     pub recovered: Result<Recovered, Fault<'static>>,
     pub disk: D,
 }
 
-// What is printed of the state on a disk, or why nothing is: as `show_disk`, or `Memory` for the text.
+// Returns the text of the state on a disk. Fails as `show_disk` does, or with `Memory` for the text.
 pub fn text_of_disk<D: SectorDisk + Drop>(alloc: Global, disk: D) -> Result<String, Fault<'static>>
     ensures text { IfOk result (λ text. TellsState (D.disk disk) (string_bytes text)) }
     ensures cause { IfErr result (λ fault. Shows (D.disk disk) (λ image. TellsWhy (standing_in (D.disk disk).sectors image) fault)) }
@@ -123,13 +124,13 @@ pub fn text_of_disk<D: SectorDisk + Drop>(alloc: Global, disk: D) -> Result<Stri
     Ok(recovered?.to_string(alloc)?)
 }
 
-// Recovers the state on a disk, or says why not: `NotFormatted`, `TooSmall`, `Damaged`, `Disk` or `Memory`, as first met.
+// Recovers the state on a disk. Fails with the first fault that it meets: `NotFormatted`, `TooSmall`, `Damaged`, `Disk` or `Memory`.
 pub fn show_disk<D: SectorDisk>(alloc: Global, disk: D) -> Shown<D>
     ensures found { IfOk result.recovered (λ found. Shows (D.disk disk)
         (λ image. meaning (D.disk disk).sectors image ≡ Ok (record { number = found.number; state = found.state }))) }
     ensures cause { IfErr result.recovered (λ fault.
         Shows (D.disk disk) (λ image. TellsWhy (standing_in (D.disk disk).sectors image) fault)) }
-    // It leaves only what was there: each image is one of those before.
+    // The recovery adds nothing: each image after it is an image from before.
     ensures any_moment { LeavesOnly (D.disk disk) (D.disk result.disk) (IsImage (D.disk disk).content) }
     ensures status { IfErr result.recovered (λ fault. status_of fault ≡ 1) }
 {

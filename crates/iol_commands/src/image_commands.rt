@@ -17,12 +17,12 @@ use std::io::Write;
 use std::os::unix::fs::FileExt;
 use std::rt::Files;
 
-/// Formats the image file at `path` for this many ports and slots, and returns the exit status: 0 once the number of
-/// sectors that the journal takes is written to `out`, 2 where the numbers are no geometry, and else 1.
+/// Formats the image file at `path` for this number of ports and slots, and returns the exit status. It is 0 if the number
+/// of sectors that the journal takes is written to `out`, 2 if the numbers are not a geometry, and 1 otherwise.
 ///
-/// Where the format fails, a line on `err` says why, and nothing is written to `out`. Where writing to `out` fails,
-/// nothing is written to `err`. A file that is not there is made, with as many sectors as the geometry has. A journal
-/// that is there stays, unless `force` has it erased first.
+/// If the format fails, a line on `err` says why, and nothing is written to `out`. If writing to `out` fails, nothing is
+/// written to `err`. A missing file is made, with the number of sectors that the geometry has. An existing journal is kept,
+/// unless `force` has it erased first.
 pub fn format_image<
     F: FileExt + OpenFile + LockFile + Drop,
     R: Files<File = F> + AllocGlobal,
@@ -43,7 +43,7 @@ pub fn format_image<
     }
 }
 
-// What a format prints. The numbers are judged before the file is opened or made.
+// Formats the image file, and returns what is printed. The numbers are checked before the file is opened or made.
 fn text_of_format<'a, F: FileExt + OpenFile + LockFile + Drop, R: Files<File = F> + AllocGlobal>(
     rt: &R,
     path: &'a str,
@@ -59,7 +59,7 @@ fn text_of_format<'a, F: FileExt + OpenFile + LockFile + Drop, R: Files<File = F
     format_file(rt, path, geometry, force)
 }
 
-// Opens or makes the image file at this path, and formats it; what is printed of that.
+// Opens or makes the image file at this path, formats it, and returns what is printed.
 fn format_file<'a, F: FileExt + OpenFile + LockFile + Drop, R: Files<File = F> + AllocGlobal>(
     rt: &R,
     path: &'a str,
@@ -73,8 +73,8 @@ fn format_file<'a, F: FileExt + OpenFile + LockFile + Drop, R: Files<File = F> +
     format_disk(rt.alloc(), &mut disk, geometry, force)
 }
 
-/// Recovers the state on the image file at `path`, and returns the exit status: 0 once the state is written to `out`, and
-/// else 1. Where the recovery fails, a line on `err` says why, and nothing is written to `out`. Where writing to `out`
+/// Recovers the state on the image file at `path`, and returns the exit status: 0 if the state is written to `out`, and
+/// 1 otherwise. If the recovery fails, a line on `err` says why, and nothing is written to `out`. If writing to `out`
 /// fails, nothing is written to `err`.
 pub fn show_image<
     F: FileExt + OpenFile + LockFile + Drop,
@@ -94,7 +94,7 @@ pub fn show_image<
     }
 }
 
-// What is printed of the state on an image file.
+// Returns the text of the state on an image file.
 fn text_of_show<'a, F: FileExt + OpenFile + LockFile + Drop, R: Files<File = F> + AllocGlobal>(
     rt: &R,
     path: &'a str,

@@ -1,23 +1,23 @@
-//! The commands of `iolmaster`, the program of an IO-Link master's data storage, over writers: all but `live`, which has a
-//! crate of its own (`iol_live`), since it runs in threads.
+//! Commands of `iolmaster`, the program of an IO-Link master's data storage, over writers: they run a script, and format
+//! or show an image file. The other commands have crates of their own: `iol_check`, `iol_explain`, `iol_draw`, `iol_view`,
+//! `iol_live` and `iol_serve`.
 //!
-//! A script in TOML says a geometry, simulated devices and steps. Its run formats a disk in memory, makes the steps of
+//! A script in TOML gives a geometry, simulated devices and steps. Its run formats a disk in memory, makes the steps of
 //! clients, ports and the flusher, stops the power, and recovers what the disk holds. Each event and the recovered state
-//! are printed on standard output. Other commands format an image file, or show the state on one. Where a command fails,
-//! one line on standard error says why.
+//! are printed on standard output. If a command fails, one line on standard error says why.
 //!
 //! Modules in reading order:
-//! - `geometry` judges a script's numbers.
-//! - `disk` has the disk of a run, `recovery` the journal on it, `devices` the devices at the ports, `steps` the steps of
-//!   a script, and `run` runs it.
+//! - `geometry` checks the numbers of a script.
+//! - `disk` has the disk of a run, `recovery` recovers the journal on it, `devices` has the devices at the ports, `steps` the
+//!   steps of a script, and `run` runs it.
 //! - `image` formats and shows the disk of an image file.
 //! - `trace_text` and `event_text` have the lines of a trace, and `fault` why a command fails.
 //! - `commands` and `image_commands` are the commands over writers, and `picture` writes the file of a picture.
-//! - `examples` has lines of a trace and of faults, worked out.
+//! - `examples` has worked examples of lines of a trace and of faults.
 //!
-//! Which texts can be run is defined in `specs/Runs.antt`, what the steps of a script are in `specs/Steps.antt`, the words
-//! of a trace in `specs/Texts.antt`, its lines in `specs/Lines.antt`, and those of a recovered state in
-//! `specs/Recovered.antt`.
+//! `specs/Runs.antt` defines which texts can be run, `specs/Steps.antt` the tasks that the steps of a script are, and
+//! `specs/Lines.antt` the lines of a trace. The words of a trace and the lines of a recovered state are defined in
+//! `specs/Texts.antt` and `specs/Recovered.antt` of `iol_texts`.
 #![tactic(auto)]
 
 mod commands;

@@ -1,4 +1,4 @@
-//! The file of a picture.
+//! Writes a picture to its file.
 ghost use Rattle.std.specs.Prelude.{◌≡◌, IfErr};
 ghost use Rattle.iol_commands.specs.Fault.{status_of};
 
@@ -9,10 +9,10 @@ use std::io;
 use std::os::unix::fs::FileExt;
 use std::rt::Files;
 
-/// Makes a text all that the file at `path` holds, which is made if there is none.
+/// Replaces the content of the file at `path` with a text. The file is made if there is none.
 ///
 /// # Errors
-/// `File` where it cannot be opened, made or written, or is in use. A file in use stays as it is.
+/// `File` if the file cannot be opened, made or written, or is in use. A file in use stays as it is.
 pub fn write_picture<'a, F: FileExt + OpenFile + LockFile + Drop, R: Files<File = F>>(
     rt: &R,
     path: &'a str,
@@ -26,7 +26,7 @@ pub fn write_picture<'a, F: FileExt + OpenFile + LockFile + Drop, R: Files<File 
     }
 }
 
-// Writes the file. It is emptied only once it is locked, so that no image that is in use is.
+// Writes the file. It is emptied only after it is locked, so that an image in use is never emptied.
 fn write_file<F: FileExt + OpenFile + LockFile + Drop, R: Files<File = F>>(
     rt: &R,
     path: &str,

@@ -1,4 +1,4 @@
-//! The journal on a disk.
+//! Recovers the journal on a disk.
 ghost use Rattle.std.specs.Prelude.{◌≡◌, Ok, [], None, IfOk, IfErr};
 ghost use Rattle.iol_journal.specs.Kept.{IsKept};
 ghost use Rattle.iol_journal.specs.Meaning.{standing_in};
@@ -13,7 +13,7 @@ use iol_journal::{Journal, RecoverFault};
 use iol_types::MasterState;
 use std::alloc::Global;
 
-// The journal on a disk, and the state that it means.
+// Recovers the journal on a disk, and the state that it means.
 //
 // # Errors
 // Why the disk is not recovered.

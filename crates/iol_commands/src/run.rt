@@ -1,4 +1,4 @@
-//! The run of a script on one thread, over a disk that is empty at first.
+//! Runs a script on one thread, over a disk that is empty at first.
 ghost use Rattle.std.specs.Prelude.{◌≡◌, All, IfOk, IfErr, IsTrue};
 ghost use Rattle.iol_journal.specs.Formatting.{EachIsEmptyJournal};
 ghost use Rattle.iol_script.specs.Script.{said_of};
@@ -20,15 +20,15 @@ use iol_sim::SimLink;
 use iol_texts::Recovered;
 use std::alloc::Global;
 
-// The events of a run, and what was recovered of its disk after the stop at its end.
+// The events of a run, and what was recovered from its disk after the stop at its end.
 #[derive(Drop)]
 pub(crate) struct Report {
     pub(crate) events: Vec<Stamped>,
     pub(crate) recovered: Recovered,
 }
 
-// Formats a disk for this geometry, runs a script on it, and recovers what the script's stop leaves of it. Where the
-// script says so, a disk call fails between the recovery that follows the format and the stop.
+// Formats a disk for this geometry, runs a script on it, and recovers what the script's stop leaves of it. The disk call
+// that the script names, if any, fails; calls are counted from the recovery after the format up to the stop.
 //
 // # Errors
 // As `empty_disk`, `make_run` and `stop`.
@@ -49,10 +49,10 @@ pub(crate) fn run(
     Ok(Report { events, recovered })
 }
 
-/// A disk in memory, formatted for this geometry, of which the call fails that a script names, if it names one.
+/// Makes a disk in memory, formatted for this geometry. The call that a script names fails; if it names none, no call fails.
 ///
 /// # Errors
-/// `Memory`, `Disk`, `TooSmall` or `AlreadyFormatted`, where it is first met.
+/// `Memory`, `Disk`, `TooSmall` or `AlreadyFormatted`, whichever is met first.
 pub fn empty_disk(
     alloc: Global,
     geometry: Geometry,
@@ -67,10 +67,10 @@ pub fn empty_disk(
     Ok(failing(disk, fail))
 }
 
-/// Makes the run that a script asks for, over a disk with an empty journal.
+/// Runs a script over a disk with an empty journal.
 ///
 /// # Errors
-/// `Memory`, or `Disk` where a call of the recovery fails.
+/// `Memory`, or `Disk` if a call of the recovery fails.
 pub fn make_run<D: SectorDisk + Drop>(
     alloc: Global,
     disk: D,

@@ -24,7 +24,7 @@ impl fmt::Display for Report {
     }
 }
 
-// The lines of events. A call that is lost says so itself, so that the status behind it is not said again.
+// Writes the lines of events. A lost call has a line of its own, so the status `lost` of its port right after it has none.
 fn write_events<W: fmt::Write>(f: &mut fmt::Formatter<W>, events: &[Stamped]) -> fmt::Result
     ensures { WritesOnOk W.write_str_gives f.old result (lines_of (events_of events.now)) f.new }
 {
@@ -36,7 +36,7 @@ fn write_events<W: fmt::Write>(f: &mut fmt::Formatter<W>, events: &[Stamped]) ->
     Ok(())
 }
 
-// The lines of an event behind another, which may have told a loss.
+// Writes the lines of an event. `lost` is the port whose loss the event before it reported, if it did.
 fn write_lines<W: fmt::Write>(
     f: &mut fmt::Formatter<W>,
     event: &Event,
@@ -51,7 +51,7 @@ fn write_lines<W: fmt::Write>(
     }
 }
 
-/// The port that this event has lost the device of, if it is such an event.
+/// The port whose device this event reports as lost, if it does.
 pub fn lost_port(event: &Event) -> Option<PortId>
     ensures { result ≡ lost_in (event_of event.now) }
 {
@@ -61,7 +61,7 @@ pub fn lost_port(event: &Event) -> Option<PortId>
     }
 }
 
-/// Whether this is the status of a port whose loss was said right before.
+/// Whether this is the status of a port whose loss was reported right before.
 pub fn is_said_loss(event: &Event, lost: Option<PortId>) -> bool
     ensures { result ≡ is_said (event_of event.now) lost }
 {

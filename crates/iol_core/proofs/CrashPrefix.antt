@@ -31,7 +31,7 @@ older P marks first (e ∷ events) all k mark below =
     older P (record { clock = e.clock; acknowledged = acked_by first e.event } ∷ marks) (acked_by first e.event) events all (suc k) mark
     (omega (arith, below))
 
--- and of the moment after each count of events
+-- it holds of the moment after each count of events
 pub at_each : (P : Mark → Type 0) (t first : ℕ) (marks : List Mark) (events : List Stamp)
     → All P (marks_from (record { clock = t; acknowledged = first } ∷ marks) first events)
     → (k : ℕ) → P (record { clock = clock_after t (take k events); acknowledged = acked first (take k events) })
@@ -43,7 +43,7 @@ at_each P t first marks (e ∷ events) all zero =
 at_each P t first marks (e ∷ events) all (suc k) =
     at_each P e.clock (acked_by first e.event) (record { clock = t; acknowledged = first } ∷ marks) events all k
 
--- what holds of each moment of a run is what a power stop leaves of it
+-- if every moment of a run holds, the run satisfies `CrashPrefix`
 pub crash_prefix : (d : Disk) (begun first : ℕ) (start : State) (events : List Stamp) → legal start (accepted events) ≡ true
     → RiseByOne first (numbers events)
     → All (λ mark. IsTrue d.honest → (image : Image) → IsImageSince mark.clock d.content image

@@ -1,4 +1,4 @@
--- What holds of a core holds of it after each of its steps.
+-- What holds of a core still holds after each of its calls.
 use Rattle.std.proofs.Common.{◌≡◌, ◌≤◌, ◌<◌, ◌+◌, ◌-◌, ◌∷◌, [], ◌++◌, ℕ, Bool, true, false, nat_le, if◌then◌else◌, List, length, take, drop}
 use Rattle.std.proofs.Common.{replicate, Option, Some, None, refl, sym, ap, ◌∙◌, subst, arith, length-append, length-drop, length-take-le}
 use Rattle.std.proofs.Math.Seq.{take-length}
@@ -23,7 +23,7 @@ use Rattle.iol_core.proofs.Places.{length_written}
 use Rattle.iol_core.proofs.Queues.{after_push, legal_push, legal_parts, after_parts, none_out}
 use Rattle.iol_core.proofs.Standing as standing
 
--- the core over a state that is durable
+-- a new core over a durable state
 pub new_core : (start : Start) (seen : List CommandValue) (state : State) (permits : List (Option Grant)) → state ≡ after start.state seen
     → start.number + length seen ≤ LAST_NUMBER → permits ≡ replicate (length state) None
     → IsCore start (record {
@@ -61,13 +61,13 @@ neither true two a b e = absurd cc
 neither false true a b e = absurd cc
 neither false false a b e = (refl, refl)
 
--- a queue that takes a further command
+-- a queue that accepts a further command
 pub has_room : (core : CoreView) → queue_fault core ≡ None → (length core.queue < QUEUE_COMMANDS) × (live_number core < LAST_NUMBER)
 has_room core room =
     let tests = neither (nat_le QUEUE_COMMANDS (length core.queue)) (nat_le LAST_NUMBER (live_number core)) QueueFull Exhausted room in
     (leb-false QUEUE_COMMANDS (length core.queue) tests.0, leb-false LAST_NUMBER (live_number core) tests.1)
 
--- a port's permit is out or, where it is none, not out
+-- a port's permit is set to out or to not out
 pub permit_core : (start : Start) (core : CoreView) (port : ℕ) (permit : Option Grant) → IsCore start core → 1 ≤ port
     → FitsAt (live core) port permit → IsCore start (with_permit core port permit)
 permit_core start core port permit is one fits = record {

@@ -1,4 +1,4 @@
--- More events of a link behind those of a run.
+-- More events of a link after those of a run.
 use Rattle.std.proofs.Common.{◌≡◌, refl, ℕ, List, [], ◌∷◌, ◌++◌, ap, sym, ◌∙◌, append_assoc}
 use Rattle.iol_link.proofs.Runs.{run-append}
 use Rattle.iol_link.specs.Link.{Answered, LinkCall, LinkAnswer}
@@ -18,7 +18,7 @@ without-append (made ∷ early) late =
     ∙ sym (append_assoc (if_told made.call made) (without_events early) (without_events late))
 
 module _ {L : Type 0} (number : L → ℕ) (steps : L → LinkCall → LinkAnswer → L → Type 0) where
-  -- a run, and one more behind it
+  -- a run, and another one after it
   pub joined : (port : ℕ) (events more : List Stamp) (first middle last : L) → IsLinkRun number steps port events first middle
       → IsLinkRun number steps port more middle last → IsLinkRun number steps port (events ++ more) first last
   joined port events more first middle last early late = record {
@@ -31,6 +31,6 @@ module _ {L : Type 0} (number : L → ℕ) (steps : L → LinkCall → LinkAnswe
         ∙ sym (calls-append port events more)));
   }
 
-  -- a link that is not called, where nothing is told of it
+  -- a link that is not called, if nothing is reported of it
   pub untouched : (port : ℕ) (more : List Stamp) (link : L) → calls_told port more ≡ [] → IsLinkRun number steps port more link link
   untouched port more link none = record { made = []; run = refl; told = sym none }

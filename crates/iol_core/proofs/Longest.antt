@@ -1,4 +1,4 @@
--- Records of the first commands, and the most of them that fit.
+-- Records of the first commands, and the longest prefix that fits.
 use Rattle.std.proofs.Common.{◌≡◌, ◌<◌, ℕ, zero, suc, ◌+◌, ◌≤◌, List, [], ◌∷◌, ◌++◌, length, take, arith, ⊎_elim, length-append}
 use Rattle.std.proofs.lemmas.Bool.{cases_lt}
 use Rattle.iol_types.specs.Command.{CommandValue}
@@ -6,7 +6,7 @@ use Rattle.iol_record.specs.Record.{command_octets, newest}
 use Rattle.iol_journal.specs.Body.{records_of}
 use Rattle.iol_core.specs.Batches.{IsLongest}
 
--- more commands have no fewer octets
+-- more commands never have fewer octets
 pub records_grow : (commands : List CommandValue) (n m : ℕ) → n ≤ m → length (records_of (take n commands))
     ≤ length (records_of (take m commands))
 records_grow commands zero m h = omega arith
@@ -22,7 +22,7 @@ records_grow (c ∷ cs) (suc n) (suc m) h =
     length-append (command_octets newest c) (records_of (take m cs)) in
     omega (arith, rest, few, many)
 
--- so many are the longest where they fit and one more does not
+-- a prefix is the longest if it fits and one more command does not
 pub stops_here : (room : ℕ) (commands : List CommandValue) (n : ℕ) → n ≤ length commands → length (records_of (take n commands)) ≤ room
     → (n < length commands → room < length (records_of (take (n + 1) commands))) → IsLongest room commands n
 stops_here room commands n within fits over = record {

@@ -1,4 +1,4 @@
--- What a permit to upload is for still fits its port once commands were applied, and whether one is current.
+-- An upload grant still fits its port after commands are applied; and whether a grant is current.
 use Rattle.std.proofs.Common.{◌≡◌, ◌≢◌, ◌⊎◌, inl, inr, ⊎_elim, ◌<◌, ◌≤◌, ℕ, zero, suc, ◌-◌, ◌==◌, ◌&&◌, true, if◌then◌else◌, List}
 use Rattle.std.proofs.Common.{Option, Some, None, IsSomeAnd, slice_get, slice_set, refl, sym, ap, ◌∙◌, subst, arith}
 use Rattle.std.proofs.lemmas.Bool.{cases_eq, and_parts, and_from, eqb-true, eq-eqb, le-leb}
@@ -61,7 +61,7 @@ fits_changed grant state number port change (Some p) at evolves one fits =
     subst (λ (o : Option Port). IsSomeAnd o (FitsPort grant)) (sym found) fits)
     (cases_eq port number)
 
--- what is out still fits after a command
+-- a permit that is out still fits after a command
 pub fits_applied : (state : State) (command : CommandValue) (port : ℕ) (permit : Option Grant) → 1 ≤ port → FitsAt state port permit
     → FitsAt (apply state command) port permit
 fits_applied state command port None one fits = tt
@@ -81,7 +81,7 @@ fits_applied state (Store number revision set) port (Some (Upload grant)) one fi
 fits_applied state (Rollback number) port (Some (Upload grant)) one fits =
     (fits.0, fits_changed grant state number port exchanged (port_numbered state number) refl (λ p. inr (refl, refl)) one fits.1)
 
--- what is out still fits where one place was written
+-- permits that are out still fit after one place was written
 pub fits_written : (state : State) (permits : List (Option Grant)) (port : ℕ) (permit : Option Grant) → 1 ≤ port → FitsAt state port permit
     → ((p : ℕ) → 1 ≤ p → FitsAt state p (out_at (slice_get permits (p - 1))))
     → (p : ℕ) → 1 ≤ p → FitsAt state p (out_at (slice_get (slice_set permits (port - 1) permit) (p - 1)))
@@ -102,7 +102,7 @@ fits_written state permits port permit here fits others p one =
         subst (λ (o : Option (Option Grant)). FitsAt state p (out_at o))
         (sym (get_other permits (port - 1) (p - 1) permit (λ e. apart (omega (arith, e))))) (others p one)
 
--- permits that are for the same are equal
+-- grants with the same fields are equal
 pub same_is : (one two : UploadGrant) → same_grant one two ≡ true → one ≡ two
 same_is one two same =
     let first = and_parts _ _ same in

@@ -1,4 +1,4 @@
--- What stands at a place of a list, where one place was written.
+-- The items of a list after one place was written.
 use Rattle.std.proofs.Common.{◌≡◌, ◌≢◌, ℕ, zero, suc, List, [], ◌∷◌, Some, None, length, slice_get, slice_set, refl, ap}
 
 module _ {A : Type 0} where

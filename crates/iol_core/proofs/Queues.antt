@@ -1,4 +1,4 @@
--- Queues of commands: one more behind them, their first ones, and those that are left.
+-- Queues of commands: with one more command, their first commands, and the remaining ones.
 use Rattle.std.proofs.Common.{◌≡◌, ◌<◌, ◌&&◌, ℕ, zero, suc, ◌+◌, true, List, [], ◌∷◌, ◌++◌, length, map, take, drop, None, Some, is_none}
 use Rattle.std.proofs.Common.{Bool, not, nat_eq, arith}
 use Rattle.std.proofs.Common.{get_or, replicate, slice_get, refl, sym, ap, ◌∙◌, length-append, append-nil, add-one}
@@ -38,7 +38,7 @@ values_more queue i command within is =
     ∙ ap (λ (x : Command). map value_of (take i queue) ++ value_of x ∷ []) is
     ∙ ap (λ (front : List CommandValue). front ++ value_of command ∷ []) (sym (take-map value_of i queue)))
 
--- what the records of commands have, and of one more
+-- the octets of the records of commands, and of one more
 records_more : (commands : List CommandValue) (command : CommandValue)
     → length (records_of (commands ++ command ∷ [])) ≡ length (records_of commands) + length (command_octets newest command)
 records_more commands command =
@@ -47,7 +47,7 @@ records_more commands command =
     ∙ ap (λ (octets : List ℕ). length (flat_map (command_octets newest) commands) + length octets)
     (append-nil (command_octets newest command)))
 
--- what the records of the first commands of a queue have, and of one more
+-- the octets of the records of a queue's first commands, and of one more
 pub records_next : (queue : List Command) (i : ℕ) (command : Command) → i < length queue → get_or queue i command ≡ command
     → length (records_of (take (i + 1) (values queue))) ≡ length (records_of (take i (values queue)))
     + length (command_octets newest (value_of command))
@@ -55,20 +55,20 @@ records_next queue i command within is =
     ap (λ (commands : List CommandValue). length (records_of commands)) (values_more queue i command within is)
     ∙ records_more (take i (values queue)) (value_of command)
 
--- the first commands of a queue pass, and the others behind them
+-- the first commands of a queue pass, and then the others
 pub legal_parts : (state : State) (queue : List CommandValue) (count : ℕ) → legal state queue ≡ true
     → (legal state (take count queue) ≡ true) × (legal (after state (take count queue)) (drop count queue) ≡ true)
 legal_parts state queue count passes =
     and_parts (legal state (take count queue)) (legal (after state (take count queue)) (drop count queue))
     (sym (legal-append state (take count queue) (drop count queue)) ∙ (ap (legal state) (take-append-drop count queue) ∙ passes))
 
--- the state after the first commands, and then the others, is that after all
+-- applying the first commands and then the others gives the state after all
 pub after_parts : (state : State) (queue : List CommandValue) (count : ℕ) → after (after state (take count queue)) (drop count queue)
     ≡ after state queue
 after_parts state queue count = sym (fold-append apply state (take count queue) (drop count queue))
     ∙ ap (after state) (take-append-drop count queue)
 
--- where no permit is out, none is out at any place
+-- if no permit is out, none is out at any place
 pub none_out : (ports i : ℕ) → out_at (slice_get (replicate ports None) i) ≡ None
 none_out zero i = refl
 none_out (suc n) zero = refl
@@ -77,12 +77,12 @@ none_out (suc n) (suc i) = none_out n i
 pub length-values : (commands : List Command) → length (values commands) ≡ length commands
 length-values commands = length-map commands value_of
 
--- the first of a list, and the one that was found behind them
+-- the first items of a list, and the item found after them
 pub take_found : {A : Type 0} (xs : List A) (i : ℕ) (x : A) → slice_get xs i ≡ Some x → take (i + 1) xs ≡ take i xs ++ x ∷ []
 take_found {A = A} xs i x found = take_more xs i x (slice_get_within xs i x found)
     ∙ ap (λ (last : A). take i xs ++ last ∷ []) (get_or_from_slice_get xs i x x found)
 
--- the first of what is left of a list comes behind those before it
+-- the first of the remaining items of a list follows the items before it
 pub first_left : {A : Type 0} (xs : List A) (i : ℕ) (x : A) (rest : List A) → drop i xs ≡ x ∷ rest
     → (take (i + 1) xs ≡ take i xs ++ x ∷ []) × (drop (i + 1) xs ≡ rest)
 first_left {A = A} xs i x rest is = rw add-one (behind xs i is)
@@ -97,6 +97,6 @@ not_none : (count : ℕ) (idle fails : Bool) → (not (nat_eq count 0) && idle &
 not_none zero idle fails e = absurd cc
 not_none (suc n) idle fails e = omega arith
 
--- a command waits where a batch may be taken
+-- a command waits if a batch may be taken
 pub some_waits : (core : CoreView) → has_batch core ≡ true → 0 < length core.queue
 some_waits core there = not_none (length core.queue) (nat_eq core.flight 0) (not (writes_no_more core.stopped)) there

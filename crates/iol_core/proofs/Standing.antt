@@ -1,4 +1,4 @@
--- A state that the first commands of a list make, once more of them are durable.
+-- The state after a prefix of a list of commands, when more of them become durable.
 use Rattle.std.proofs.Common.{◌≡◌, ℕ, zero, suc, ◌+◌, ◌-◌, ◌≤◌, List, [], ◌∷◌, ◌++◌, length, take, refl, sym, ap, ◌∙◌, arith, length-append}
 use Rattle.std.proofs.lemmas.List.{take_all}
 use Rattle.std.proofs.lemmas.List.Sums.{fold-append}
@@ -9,7 +9,7 @@ use Rattle.iol_front.specs.Fronts.{Start}
 use Rattle.iol_front.proofs.Prefixes.{prefix_append, prefix_trans}
 use Rattle.iol_core.specs.Standing.{Stands}
 
--- a beginning is no longer than the whole
+-- a prefix is no longer than the whole list
 pub prefix_length : {A : Type 0} (xs zs : List A) → IsPrefix xs zs → length xs ≤ length zs
 prefix_length xs zs (rest, is) = let whole : length xs + length rest ≡ length zs = sym (length-append xs rest) ∙ ap length is in
     omega (arith, whole)
@@ -19,11 +19,11 @@ take_append zero xs ys h = refl
 take_append (suc n) [] ys h = absurd (omega arith)
 take_append (suc n) (x ∷ xs) ys h = ap (λ (rest : List _). x ∷ rest) (take_append n xs ys (omega arith))
 
--- what stands in a beginning stands in the whole
+-- the first `n` items of a prefix are the first `n` items of the whole list
 pub take_prefix : {A : Type 0} (xs zs : List A) (n : ℕ) → IsPrefix xs zs → n ≤ length xs → take n zs ≡ take n xs
 take_prefix xs zs n (rest, is) h = ap (take n) (sym is) ∙ take_append n xs rest h
 
--- the same state stands where more was seen
+-- `Stands` still holds if more commands were seen
 pub stands_later : (start : Start) (seen later : List CommandValue) (number : ℕ) (state : State)
     → Stands start seen number state → IsPrefix seen later → Stands start later number state
 stands_later start seen later number state stands kept =
@@ -36,7 +36,7 @@ stands_later start seen later number state stands kept =
       state = stands.state ∙ ap (after start.state) (sym (take_prefix seen later (number - start.number) kept (omega arith)));
     }
 
--- after the batch that follows, the state after it stands at its last number
+-- after the next batch, `Stands` holds of the state after it, at its last number
 pub acknowledged : (start : Start) (seen later before commands : List CommandValue) (number : ℕ) (state : State)
     → Stands start seen number state → IsPrefix seen later → IsPrefix (before ++ commands) later → start.number + length before ≡ number
     → Stands start later (number + length commands) (after state commands)

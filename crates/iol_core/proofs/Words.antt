@@ -1,4 +1,4 @@
--- More events behind those of a run.
+-- More events after those of a run.
 use Rattle.std.proofs.Common.{◌≡◌, refl, ◌+◌, ◌⊎◌, inl, inr, ⊎_elim, ℕ, List, [], ◌∷◌, ◌++◌, length, ap, sym, ◌∙◌, subst, arith}
 use Rattle.std.proofs.Common.{append_assoc}
 use Rattle.std.proofs.lemmas.List.Sums.{fold-append}
@@ -30,7 +30,7 @@ failure-append [] more failed = inr failed
 failure-append (e ∷ events) more (inl here) = inl (inl here)
 failure-append (e ∷ events) more (inr there) = ⊎_elim (λ front. inl (inr front)) (λ behind. inr behind) (failure-append events more there)
 
--- numbers that rise by one go on rising with the next one
+-- numbers that rise by one still do so with the next number
 pub rise-append : (last : ℕ) (ns more : List ℕ) → RiseByOne last ns → RiseByOne (last + length ns) more → RiseByOne last (ns ++ more)
 rise-append last [] more rise rest = subst (λ (n : ℕ). RiseByOne n more) (omega arith) rest
 rise-append last (n ∷ ns) more rise rest =

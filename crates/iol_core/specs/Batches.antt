@@ -10,7 +10,7 @@ use Rattle.iol_core.specs.declared.batches.AckFault.{AckFault}
 use Rattle.iol_core.specs.declared.batches.AckFault.TheVariants.{Stranger}
 use Rattle.iol_core.specs.Submit.{writes_no_more}
 
--- so many of the commands are the most from the first on whose records have at most so many octets (own)
+-- `count` is the length of the longest prefix whose records fit in `room` octets (own)
 pub record IsLongest (room : ℕ) (commands : List CommandValue) (count : ℕ) : Type 0 where
   pub within : count ≤ length commands
   pub fits : length (records_of (take count commands)) ≤ room
@@ -20,8 +20,8 @@ pub record IsLongest (room : ℕ) (commands : List CommandValue) (count : ℕ) :
 abbrev pub has_batch : CoreView → Bool
 has_batch core = not (nat_eq (length core.queue) 0) && nat_eq core.flight 0 && not (writes_no_more core.stopped)
 
--- the batch that is taken: the longest beginning of the queue that fits, of one command at least, under the next
--- number; it is in flight then, and still waits (own)
+-- a batch is taken: the longest prefix of the queue that fits, with at least one command, under the next number;
+-- it is then in flight, and its commands stay in the queue (own)
 pub record IsTaken (old : CoreView) (room : ℕ) (new : CoreView) (batch : Batch) : Type 0 where
   pub there : has_batch old ≡ true
   pub longest : IsLongest room old.queue new.flight
@@ -30,13 +30,12 @@ pub record IsTaken (old : CoreView) (room : ℕ) (new : CoreView) (batch : Batch
   pub commands : values batch.commands.items ≡ take new.flight old.queue
   pub others : new ≡ record old { flight = new.flight }
 
--- what is taken: a batch where there is one, and else nothing (own)
+-- a batch is taken if there is one, and otherwise nothing changes (own)
 abbrev pub IsTake : CoreView → ℕ → CoreView → Option Batch → Type 0
 IsTake old room new (Some batch) = IsTaken old room new batch
 IsTake old room new None = (has_batch old ≡ false) × (new ≡ old)
 
--- a batch that is published is the one in flight: it stands behind the durable commands, and has the commands in
--- flight (own)
+-- a published batch is the one in flight: it follows the durable commands and has the commands in flight (own)
 pub record IsInFlight (start : Start) (core : CoreView) (batch : CommittedView) : Type 0 where
   pub flies : 0 < core.flight
   pub follows : start.number + length batch.before ≡ core.number
@@ -52,6 +51,6 @@ acknowledged core seen = record core {
   seen = seen;
 }
 
--- the batch comes back: it is not the one in flight (own)
+-- the batch is returned, because it is not the one in flight (own)
 abbrev pub IsStranger : {F : Type 0} → Start → CoreView → CommittedView → AckFault F → Type 0
 IsStranger start core batch (Stranger back) = (back ≡ batch) × (IsInFlight start core batch → ⊥)

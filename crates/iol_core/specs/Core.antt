@@ -1,4 +1,4 @@
--- What a core holds: what is durable, what waits for the disk, and which permits are out.
+-- What a core holds: the durable state, the commands that wait for the disk, and the permits that are out.
 use Rattle.std.specs.Prelude.{◌≡◌, ℕ, ◌+◌, ◌-◌, ◌≤◌, ◌==◌, true, Bool, ◌&&◌, List, length, Option, Some, None, IsSomeAnd, slice_get}
 use Rattle.std.specs.Prelude.{slice_set}
 use Rattle.iol_types.specs.Command.{CommandValue}
@@ -15,8 +15,8 @@ use Rattle.iol_core.specs.declared.permit.UploadGrant.{UploadGrant}
 use Rattle.iol_core.specs.declared.stop.StopCause.{StopCause}
 
 -- a core as contracts see it: the durable state and the number of its last command; the commands that wait for the
--- disk, and how many of them are in flight. What each port's permit is for that is out, why no more is taken, and the
--- list that its own pass has seen (own)
+-- disk, and how many of them are in flight. Further what each port's permit is for, if one is out, why no more is
+-- accepted, and the list that its own pass has seen (own)
 pub record CoreView : Type 0 where
   pub durable : State
   pub number : ℕ
@@ -26,11 +26,11 @@ pub record CoreView : Type 0 where
   pub stopped : Option StopCause
   pub seen : List CommandValue
 
--- the live state: the durable one after what waits (own)
+-- the live state: the durable one after the waiting commands (own)
 abbrev pub live : CoreView → State
 live core = after core.durable core.queue
 
--- the number of the last command that waits, or of the last durable one (own)
+-- the number of the last waiting command, or of the last durable one if none waits (own)
 abbrev pub live_number : CoreView → ℕ
 live_number core = core.number + length core.queue
 
@@ -42,29 +42,29 @@ out_at (Some out) = out
 abbrev pub permit_at : CoreView → ℕ → Option Grant
 permit_at core port = out_at (slice_get core.permits (port - 1))
 
--- the core with a port's permit out or, where it is none, not out (own)
+-- the core with this permit of a port out, or with none out (own)
 abbrev pub with_permit : CoreView → ℕ → Option Grant → CoreView
 with_permit core port permit = record core { permits = slice_set core.permits (port - 1) permit }
 
--- a configuration names a device with these numbers (own)
+-- a configuration names a device with these vendor and device IDs (own)
 abbrev pub names_device : PortConfig → ℕ → ℕ → Bool
 names_device config vendor device = (config.vendor == vendor) && (config.device == device)
 
--- what a permit to upload is for fits a port: it is at most at the port's revision; and where it is at that, the port
--- may store a set of the permit's device (own)
+-- an upload grant fits a port: its revision is at most the port's, and if they are equal, the port may store a set of
+-- the grant's device (own)
 pub record FitsPort (grant : UploadGrant) (port : Port) : Type 0 where
   pub revision : grant.revision ≤ port.revision
   pub current : grant.revision ≡ port.revision → (may_store_set port.config && names_device port.config grant.vendor grant.device) ≡ true
 
--- what a port's permit is for, if one is out: to upload, it is of this port and fits it as it stands in this state
+-- a port's permit fits this state: an upload grant belongs to this port and fits it; any other permit, or none, fits
 -- (own)
 abbrev pub FitsAt : State → ℕ → Option Grant → Type 0
 FitsAt state port (Some (Upload grant)) = (grant.port ≡ port) × IsSomeAnd (port_numbered state port) (FitsPort grant)
 FitsAt state port _ = Unit {0}
 
--- what holds of a core, whose front has this start: the durable state is that after the first commands that its pass
--- has seen. Each command that waits passes in the state that it meets, at most 64 wait, and no number is over 2^62.
--- Each port has one place for a permit, and what a permit to upload is for fits its port in the live state (own)
+-- what always holds of a core whose front has this start: the durable state is the state after the first commands
+-- that its pass has seen. Each command that waits passes in the state that it meets, at most 64 wait, and no number
+-- is over 2^62. Each port has one place for a permit, and an upload grant fits its port in the live state (own)
 pub record IsCore (start : Start) (core : CoreView) : Type 0 where
   pub stands : Stands start core.seen core.number core.durable
   pub legal : legal core.durable core.queue ≡ true

@@ -1,4 +1,4 @@
--- Permits that are out, and those that come back.
+-- Permits that are out, and permits that are returned.
 use Rattle.std.specs.Prelude.{ℕ, ◌==◌, Bool, true, false, ◌&&◌, if◌then◌else◌, Option, Some, None, is_some}
 use Rattle.iol_core.specs.Core.{CoreView, permit_at, with_permit}
 use Rattle.iol_core.specs.declared.permit.Grant.{Grant}
@@ -9,13 +9,13 @@ use Rattle.iol_core.specs.declared.permit.UploadGrant.{UploadGrant}
 abbrev pub is_taken : CoreView → ℕ → Bool
 is_taken core port = is_some (permit_at core port)
 
--- two permits to upload are for the same (own)
+-- two upload grants are equal (own)
 abbrev pub same_grant : UploadGrant → UploadGrant → Bool
 same_grant one two =
     (one.port == two.port) && (one.revision == two.revision) && (one.vendor == two.vendor) && (one.device == two.device)
     && (one.connection == two.connection)
 
--- what is out is a permit to upload that is for this; what is out is a permit to download (own)
+-- the permit that is out is a permit to upload with this grant, or is a permit to download (own)
 abbrev pub is_upload : Option Grant → UploadGrant → Bool
 is_upload (Some (Upload out)) grant = same_grant out grant
 is_upload _ grant = false
@@ -28,10 +28,10 @@ is_download _ = false
 abbrev pub is_out : CoreView → UploadGrant → Bool
 is_out core grant = is_upload (permit_at core grant.port) grant
 
--- the core without this permit to upload; one that is not out changes nothing (own)
+-- the core without this permit to upload; unchanged if the permit is not out (own)
 abbrev pub without_upload : CoreView → UploadGrant → CoreView
 without_upload core grant = if is_out core grant then with_permit core grant.port None else core
 
--- the core without the port's permit to download; where none is out nothing changes (own)
+-- the core without the port's permit to download; unchanged if none is out (own)
 abbrev pub without_download : CoreView → ℕ → CoreView
 without_download core port = if is_download (permit_at core port) then with_permit core port None else core

@@ -1,4 +1,4 @@
--- What a core tells of a port.
+-- What a core reports of a port.
 use Rattle.std.specs.Prelude.{ℕ, Option}
 use Rattle.std.specs.Option.{option_map}
 use Rattle.iol_types.specs.State.{Port, Stored, port_numbered}
@@ -7,8 +7,8 @@ use Rattle.iol_core.specs.Downloads.{durable_set}
 use Rattle.iol_core.specs.declared.port.View.{View}
 use Rattle.iol_core.specs.declared.port.Work.{Work}
 
--- what a port is to work with: the live configuration and revision, and the checksum of the durable set, if there is
--- one (own)
+-- what a port works with: the live configuration and revision, and the checksum of the durable set, if there is one
+-- (own)
 abbrev pub work_of : Port → Option Stored → Work
 work_of port stored =
     record { config = port.config; revision = port.revision; checksum = option_map (λ stored. stored.set.checksum) stored }

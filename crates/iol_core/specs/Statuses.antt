@@ -1,24 +1,24 @@
--- What a trace tells of a command that is refused, of a port's work and of its status, as plain data.
+-- Refusals of commands, work and status of ports as a trace reports them, as plain data.
 use Rattle.std.specs.Prelude.{ℕ, Option}
 use Rattle.iol_types.specs.declared.command.CommandFault.{CommandFault}
 use Rattle.iol_types.specs.declared.config.PortConfig.{PortConfig}
 use Rattle.iol_link.specs.declared.validation.IdentFault.{IdentFault}
 
--- why a command is refused: nothing more is taken, it does not pass, the queue is full, or no number is left (format,
--- Texts)
+-- why a command is refused: the core has stopped, the command does not pass, the queue is full, or no number is left
+-- (format, Texts)
 pub data Refusal : Type 0 where
   Stopped : Refusal
   Command : (fault : CommandFault) → Refusal
   QueueFull : Refusal
   Exhausted : Refusal
 
--- what a port is to work with: its configuration and revision, and the checksum of its durable set, if it has one (own)
+-- what a port works with: its configuration and revision, and the checksum of its durable set, if it has one (own)
 pub record Work : Type 0 where
   pub config : PortConfig
   pub revision : ℕ
   pub checksum : Option ℕ
 
--- why a port has failed: by the fault of a transfer, of an ISDU, or by a refusal of the core (format, Texts)
+-- why a port has failed: a fault of a transfer or of an ISDU, or a refusal of the core (format, Texts)
 pub data Failure : Type 0 where
   Refused : (error additional : ℕ) → Failure
   Unexpected : Failure

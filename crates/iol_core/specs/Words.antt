@@ -1,4 +1,4 @@
--- Words on the events of a run.
+-- Commands, numbers and acknowledgements in the events of a run.
 use Rattle.std.specs.Prelude.{◌≡◌, ◌+◌, ◌-◌, ◌⊎◌, ℕ, List, [], ◌∷◌, ◌++◌, fold, take}
 use Rattle.iol_types.specs.Command.{CommandValue}
 use Rattle.iol_types.specs.State.{State, after}
@@ -13,7 +13,7 @@ abbrev pub number_in : Event → List ℕ
 number_in (Accepted number command) = number ∷ []
 number_in event = []
 
--- the commands that were accepted, in their order, and their numbers (own)
+-- the accepted commands in order, and their numbers (own)
 abbrev pub accepted : List Stamp → List CommandValue
 accepted [] = []
 accepted (e ∷ events) = command_in e.event ++ accepted events
@@ -27,11 +27,11 @@ abbrev pub acked_by : ℕ → Event → ℕ
 acked_by number (Acknowledged last) = last
 acked_by number event = number
 
--- the number in the last `Acknowledged`, or the starting number (own)
+-- the number in the last `Acknowledged`, or the start number (own)
 abbrev pub acked : ℕ → List Stamp → ℕ
 acked first events = fold (λ (number : ℕ) (e : Stamp). acked_by number e.event) first events
 
--- the durable state: the starting state after the commands that are acknowledged (own)
+-- the durable state: the start state after the acknowledged commands (own)
 abbrev pub durable : ℕ → State → List Stamp → State
 durable first start events = after start (take (acked first events - first) (accepted events))
 
@@ -39,7 +39,7 @@ durable first start events = after start (take (acked first events - first) (acc
 abbrev pub clock_after : ℕ → List Stamp → ℕ
 clock_after begun events = fold (λ (t : ℕ) (e : Stamp). e.clock) begun events
 
--- a failure of the disk was told (own)
+-- an event reports a failure of the disk, or one of the events does (own)
 abbrev pub IsFailure : Event → Type 0
 IsFailure DiskFailed = Unit {0}
 IsFailure event = ⊥
@@ -48,7 +48,7 @@ abbrev pub HasFailure : List Stamp → Type 0
 HasFailure [] = ⊥
 HasFailure (e ∷ events) = IsFailure e.event ⊎ HasFailure events
 
--- numbers rise by one, from the one behind this (own)
+-- numbers rise by one, starting with the one after this (own)
 abbrev pub RiseByOne : ℕ → List ℕ → Type 0
 RiseByOne last [] = Unit {0}
 RiseByOne last (number ∷ rest) = (number ≡ last + 1) × RiseByOne number rest

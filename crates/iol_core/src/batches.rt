@@ -19,20 +19,20 @@ use iol_types::{Command, MasterState};
 use std::alloc::{AllocError, Global};
 use std::collections::VecDeque;
 
-/// A published batch that is not the one in flight.
+/// Why a published batch is not acknowledged.
 #[derive(Drop)]
 pub enum AckFault<F: Name> {
-    /// It was not taken from this core, or is acknowledged already.
+    /// The batch is not the one in flight: it was not taken from this core, or is acknowledged already.
     Stranger(Committed<F>),
 }
 
 impl<F: Name> Core<F> {
-    /// The longest beginning of the queue whose records have at most `room` octets, as a batch under the next number;
-    /// from then on it is in flight, and still waits. `None` where nothing waits, a batch is in flight, or the disk has
-    /// failed.
+    /// Returns the longest prefix of the queue whose records fit in `room` octets, as a batch under the next number.
+    /// The batch is then in flight, and its commands stay in the queue. `None` if nothing waits, a batch is in flight,
+    /// or nothing more is written.
     ///
     /// # Errors
-    /// `AllocError` where it is out of memory; nothing changes.
+    /// `AllocError` if out of memory; nothing changes.
     pub fn take_batch(&mut self, room: usize) -> Result<Option<Batch>, AllocError>
         requires { LARGEST_COMMAND_RECORD ≤ room }
         ensures take { IfOk result (λ batch. IsTake self.old room self.new batch) }
@@ -60,7 +60,7 @@ impl<F: Name> Core<F> {
         !self.queue.is_empty() && self.flight == 0 && !self.writes_no_more()
     }
 
-    /// Whether a published batch is the one in flight: behind the durable commands, and with the commands in flight.
+    /// Whether a published batch is the one in flight: it follows the durable commands and has the commands in flight.
     pub fn awaits(&self, committed: &Committed<F>) -> bool
         ensures { IsTrue result ↔ IsInFlight F.front.start self.now committed.now }
     {
@@ -69,11 +69,11 @@ impl<F: Name> Core<F> {
             && is_front(committed, &self.queue, self.flight)
     }
 
-    /// Takes the batch in flight out of the queue, once it is published, and applies it to the durable state; the
-    /// core's own pass has then seen it. The answer is the number of its last command. It takes no memory.
+    /// Removes the published batch in flight from the queue and applies it to the durable state; the core's own pass
+    /// has then seen it. Returns the number of its last command. It allocates no memory.
     ///
     /// # Errors
-    /// `Stranger` with the batch where it is not the one in flight; nothing changes.
+    /// `Stranger` with the batch if it is not the one in flight; nothing changes.
     pub fn acknowledge(&mut self, mut committed: Committed<F>) -> Result<u64, AckFault<F>>
         ensures flight { IfOk result (λ _. IsInFlight F.front.start self.old committed) }
         ensures acknowledged { IfOk result (λ _. self.new ≡ acknowledged self.old self.new.seen) }
@@ -94,7 +94,7 @@ impl<F: Name> Core<F> {
     }
 }
 
-// How many of the commands are the most whose records have at most so many octets.
+// The length of the longest prefix whose records fit in `room` octets.
 fn longest(queue: &VecDeque<Command>, room: usize) -> usize
     requires { LARGEST_COMMAND_RECORD ≤ room }
     ensures longest { IsLongest room (values queue.now.items) result }
@@ -111,7 +111,7 @@ fn longest(queue: &VecDeque<Command>, room: usize) -> usize
     queue.len()
 }
 
-// The first commands; sets are shared.
+// Copies the first `count` commands; their sets are shared.
 fn copy_front(
     alloc: Global,
     queue: &VecDeque<Command>,
@@ -127,7 +127,7 @@ fn copy_front(
     Ok(commands)
 }
 
-// Whether a batch has just the first commands.
+// Whether a batch has exactly the first `count` commands.
 fn is_front<F: Name>(committed: &Committed<F>, queue: &VecDeque<Command>, count: usize) -> bool
     requires { count ≤ length queue.now.items }
     ensures { IsTrue result ↔ (committed.now.commands ≡ take count (values queue.now.items)) }
@@ -146,14 +146,14 @@ fn is_front<F: Name>(committed: &Committed<F>, queue: &VecDeque<Command>, count:
     true
 }
 
-// Whether two commands say the same.
+// Whether two commands are equal.
 fn is_same(one: &Command, two: &Command) -> bool
     ensures { IsTrue result ↔ (value_of one.now ≡ value_of two.now) }
 {
     *one == *two
 }
 
-// Takes the first commands out, and applies them.
+// Removes the first `count` commands from the queue and applies them.
 fn apply_front(durable: &mut MasterState, queue: &mut VecDeque<Command>, count: usize)
     requires count { count ≤ length queue.old.items }
     requires legal { legal durable.old (values queue.old.items) ≡ true }

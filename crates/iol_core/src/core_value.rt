@@ -1,4 +1,4 @@
-//! The core, and what its calls share.
+//! The core, and the parts that its calls share.
 
 ghost use Rattle.std.specs.Prelude.{◌≡◌, ◌≤◌, ◌+◌, [], length, replicate, slice_get, slice_set, None, IfOk, Some};
 ghost use Rattle.std.specs.VecDeque.{deque_capacity};
@@ -18,16 +18,16 @@ use std::alloc::{AllocError, Global};
 use std::collections::VecDeque;
 use std::marker::Model;
 
-/// The most commands that wait, those in flight included.
+/// The largest number of waiting commands, those in flight included.
 pub const QUEUE_COMMANDS: usize = 64;
 
-/// The durable state, the commands that wait for the disk, and the permits that are out. A contract sees the record
-/// `CoreView` of `specs/Core.antt`, and `IsCore` holds of it at all times.
+/// The durable state, the commands that wait for the disk, and the permits that are out. Contracts see it as the record `CoreView`
+/// of `specs/Core.antt`, of which `IsCore` always holds.
 #[derive(Drop)]
 pub struct Core<F: Name> {
     pub(crate) alloc: Global,
     pub(crate) durable: MasterState,
-    // the durable state after the queue
+    // the durable state after the commands of the queue
     live: MasterState,
     pub(crate) number: u64,
     pub(crate) queue: VecDeque<Command>,
@@ -71,11 +71,11 @@ impl<F: Name> Model for Core<F> {
 }
 
 impl<F: Name> Core<F> {
-    /// The core over a state that is durable: that of the start of the pass's front after the commands that the pass
-    /// has seen. Nothing waits and no permit is out.
+    /// Creates a core over a durable state: the start state of the pass's front after the commands that the pass has seen. Nothing
+    /// waits and no permit is out.
     ///
     /// # Errors
-    /// `AllocError` where it is out of memory.
+    /// `AllocError` if out of memory.
     pub fn new(alloc: Global, state: MasterState, pass: Pass<F>) -> Result<Core<F>, AllocError>
         requires { state ≡ after F.front.start.state pass }
         ensures { IfOk result (λ core. core ≡ record {
@@ -103,7 +103,7 @@ impl<F: Name> Core<F> {
         })
     }
 
-    /// The number of the last command that waits, or of the last durable one.
+    /// The number of the last waiting command, or of the last durable one if none waits.
     pub fn live_number(&self) -> u64
         ensures number { result ≡ live_number self.now }
         ensures bound { result ≤ LAST_NUMBER }
@@ -126,10 +126,10 @@ impl<F: Name> Core<F> {
         self.number
     }
 
-    /// A pass that has seen what the core's own has.
+    /// Returns a pass that has seen what the core's own pass has seen.
     ///
     /// # Errors
-    /// `AllocError` where it is out of memory; nothing changes.
+    /// `AllocError` if out of memory; nothing changes.
     pub fn pass(&mut self) -> Result<Pass<F>, AllocError>
         ensures same { self.new ≡ self.old }
         ensures pass { IfOk result (λ pass. pass ≡ self.old.seen) }
@@ -137,8 +137,8 @@ impl<F: Name> Core<F> {
         self.pass.another()
     }
 
-    /// Takes no more commands and uploads, for this cause. A failed disk stays the cause, and want of memory stays it where the core
-    /// is then closed.
+    /// Stops accepting commands and uploads, for this cause. A failed disk stays the cause, and running out of memory stays the
+    /// cause if the core is closed afterwards.
     pub fn stop(&mut self, cause: StopCause)
         ensures { self.new ≡ record self.old { stopped = Some (stopped_by self.old.stopped cause) } }
     {
@@ -161,7 +161,7 @@ impl<F: Name> Core<F> {
         &self.live
     }
 
-    // Whether no more is taken.
+    // Whether no more commands and uploads are accepted.
     pub(crate) fn is_stopped(&self) -> bool
         ensures { result ≡ is_stopped self.now }
     {
@@ -178,14 +178,14 @@ impl<F: Name> Core<F> {
         )
     }
 
-    // What the port's permit is for, if one is out.
+    // The grant of the port's permit, if one is out.
     pub(crate) fn permit(&self, port: PortId) -> Option<Grant>
         ensures { result ≡ permit_at self.now port }
     {
         permit_in(&self.permits, port.place())
     }
 
-    // The port's permit is out for this or, where it is none, not out.
+    // Records what the port's permit is for, or with `None` that no permit is out.
     pub(crate) fn set_permit(&mut self, port: PortId, permit: Option<Grant>)
         requires { FitsAt (live self.old) port permit }
         ensures { self.new ≡ with_permit self.old port permit }
@@ -193,7 +193,7 @@ impl<F: Name> Core<F> {
         put_permit(&mut self.permits, port.place(), permit);
     }
 
-    // Whether the queue takes a further command.
+    // Why the queue accepts no further command, or `None` if it does.
     pub(crate) fn queue_fault(&self) -> Option<SubmitFault>
         ensures { result ≡ queue_fault self.now }
     {
@@ -206,7 +206,7 @@ impl<F: Name> Core<F> {
         }
     }
 
-    // Takes a command that passes, of which the queue and the live state get one each.
+    // Appends a command that passes the check. `command` and `same` are equal: one goes to the live state, the other to the queue.
     pub(crate) fn enqueue(&mut self, command: Command, same: Command) -> Ticket
         requires same { value_of same ≡ value_of command }
         requires passes { check (live self.old) (value_of command) ≡ None }
@@ -222,7 +222,7 @@ impl<F: Name> Core<F> {
     }
 }
 
-// What a core over a state takes memory for: the live state, the queue, and a place for each port's permit.
+// Allocates what a core over a state needs: the live state, the queue, and a place for each port's permit.
 fn memory_for(
     alloc: Global,
     state: &MasterState,
@@ -238,7 +238,7 @@ fn memory_for(
     Ok((live, queue, permits))
 }
 
-// What stands at a place, if it is there.
+// Returns the permit at a place; `None` if there is no such place.
 fn permit_in(permits: &[Option<Grant>], place: usize) -> Option<Grant>
     ensures { result ≡ out_at (slice_get permits.now place) }
 {
@@ -248,7 +248,7 @@ fn permit_in(permits: &[Option<Grant>], place: usize) -> Option<Grant>
     }
 }
 
-// Writes a place, if it is there.
+// Writes a permit to a place, if there is such a place.
 fn put_permit(permits: &mut Vec<Option<Grant>>, place: usize, permit: Option<Grant>)
     ensures { permits.new.items ≡ slice_set permits.old.items place permit }
 {

@@ -1,4 +1,4 @@
-//! Downloads: a permit, and the durable set.
+//! Downloads: a port gets a permit and its durable set.
 
 ghost use Rattle.std.specs.Prelude.{◌≡◌, ◌≢◌, ℕ, Bool, true, ◌&&◌, Option, Some, None, IfOk, IfErr, OnOk, IsSomeAnd};
 ghost use Rattle.iol_types.specs.State.{Stored, port_numbered};
@@ -15,22 +15,22 @@ use std::alloc::AllocError;
 use std::sync::Arc;
 use thiserror::Error;
 
-/// Why a port gets no permit to download. The causes are judged in this order.
+/// Why a port gets no permit to download. The causes are checked in this order.
 #[derive(Clone, Copy, Debug, PartialEq, Eq, Error)]
 pub enum DownloadFault {
     /// There is no such port, or it is not IOL_MANUAL with Backup and Restore or Restore.
     #[error("the port has no parameter set to restore")]
     NotAllowed,
-    /// No set is stored for the port, or what waits deletes it.
+    /// No set is stored for the port, or a waiting command deletes it.
     #[error("no parameter set is stored for the port")]
     Empty,
     /// The port's configuration or the set names another device.
     #[error("the port is configured for another device")]
     WrongDevice,
-    /// A permit of the port is out.
+    /// The port already has a permit.
     #[error("the port has a permit")]
     Taken,
-    /// The device has the checksum of the set.
+    /// The device already has the set: the checksums are equal.
     #[error("the device has the parameter set")]
     Same,
     /// Out of memory.
@@ -54,11 +54,11 @@ impl From<AllocError> for DownloadFault {
 }
 
 impl<F: Name> Core<F> {
-    /// The permit to download to a device that the port is configured for, and the port's durable set, which is of that
-    /// device. The checksum is the device's. A later configuration does not end a download.
+    /// Grants a permit to download to a device that the port is configured for, and returns it with the port's durable
+    /// set, which belongs to that device. `checksum` is the device's. A later configuration does not end a download.
     ///
     /// # Errors
-    /// The first cause, in the order of [`DownloadFault`]; nothing changes.
+    /// The first cause that applies, in the order of [`DownloadFault`]; nothing changes.
     pub fn begin_download(
         &mut self,
         port: PortId,
@@ -77,7 +77,7 @@ impl<F: Name> Core<F> {
         })
     }
 
-    /// Gives a permit to download back. One that is not out changes nothing.
+    /// Returns a permit to download. A permit that is not out changes nothing.
     pub fn end_download(&mut self, permit: DownloadPermit)
         ensures { self.new ≡ without_download self.old permit }
     {
@@ -87,7 +87,8 @@ impl<F: Name> Core<F> {
         }
     }
 
-    // The durable set of a port, for a device with these numbers and this checksum.
+    // Returns the durable set of a port for a device with these IDs and this checksum, or says why there is no
+    // download.
     fn durable_set(
         &self,
         port: PortId,
@@ -117,7 +118,7 @@ impl<F: Name> Core<F> {
         }
     }
 
-    // The live configuration of a port that may keep a set, and has one in the live state.
+    // Returns the live configuration of a port that may keep a set and has one in the live state.
     fn live_config(&self, port: PortId) -> Result<PortConfig, DownloadFault>
         ensures empty { IfOk result (λ _. (vendor device checksum : ℕ) → (taken : Bool)
             → download_fault_at (port_numbered (live self.now) port) None vendor device checksum taken ≡ Some Empty) }
@@ -142,7 +143,7 @@ impl<F: Name> Core<F> {
     }
 }
 
-// Whether a configuration and a set are both of a device with these numbers.
+// Whether a configuration and a set both belong to a device with these IDs.
 fn is_for(config: &PortConfig, set: &DataSet, vendor: u16, device: DeviceId) -> bool
     ensures same { result ≡ (names_device config.now vendor device && is_of_device set.now vendor device) }
     ensures set { result ≡ true → (set.now.vendor ≡ vendor) × (set.now.device ≡ device) }

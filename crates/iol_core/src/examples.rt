@@ -1,4 +1,4 @@
-//! Facts of a core, with values, for its definitions to be checked against: each is proved by computing.
+//! Worked examples of a core, against which its definitions are checked: the prover computes each of these.
 
 ghost use Rattle.std.specs.Prelude.{◌≡◌, ◌-◌, ◌^◌, [], ◌∷◌, replicate, true, false, Some, None};
 ghost use Rattle.std.specs.Option.{option_map};
@@ -31,7 +31,7 @@ pub fn bounds()
     ensures number { LAST_NUMBER ≡ 2 ^ 62 }
 {}
 
-/// A command of a port that is there is accepted behind one that waits; the eighth is then the last number.
+/// A command for an existing port is accepted after one that waits; the last number is then 8.
 pub fn a_submit()
     ensures there { submit_fault (blank_core (configure_one ∷ [])) (Clear 1) ≡ None }
     ensures not_there { submit_fault (blank_core []) (Clear 2) ≡ Some (Command UnknownPort) }
@@ -40,7 +40,8 @@ pub fn a_submit()
     ensures waiting { ticket_state (blank_core (configure_one ∷ [])) 8 ≡ Waiting }
 {}
 
-/// A command is refused by its first cause: nothing more is taken, it does not pass, 64 wait, and the last number is 2^62.
+/// A command is refused for the first cause that applies: the core has stopped, the command does not pass, 64 wait, or the last
+/// number is 2^62.
 pub fn a_submit_that_is_refused()
     ensures stopped { submit_fault (record (blank_core []) { stopped = Some Closed }) (Clear 2) ≡ Some Stopped }
     ensures not_there { submit_fault (blank_core (replicate 64 (Clear 1))) (Clear 2) ≡ Some (Command UnknownPort) }
@@ -53,8 +54,9 @@ pub fn a_submit_that_is_refused()
     ensures exhausted { submit_fault (record (blank_core []) { number = 2 ^ 62 }) (Clear 1) ≡ Some Exhausted }
 {}
 
-/// What waits may still be written where the master is shut down; once the disk has failed, or memory ran out at the end, nobody
-/// knows. A failed disk stays the cause, and want of memory stays it where the core is then closed.
+/// Waiting commands may still be written if the master is shut down; once the disk has failed, or memory ran out at the end,
+/// their fate is unsure. A failed disk stays the cause, and running out of memory stays the cause if the core is closed
+/// afterwards.
 pub fn a_core_that_stopped()
     ensures waiting { ticket_state (record (blank_core (configure_one ∷ [])) { stopped = Some Closed }) 8 ≡ Waiting }
     ensures unsure { ticket_state (record (blank_core (configure_one ∷ [])) { stopped = Some DiskFailed }) 8 ≡ Unsure }
@@ -69,8 +71,8 @@ pub fn a_core_that_stopped()
     ensures stays_failed { stopped_by (Some DiskFailed) OutOfMemory ≡ DiskFailed }
 {}
 
-/// A batch is there where a command waits, none is in flight, and more is written. Once it is acknowledged its
-/// commands are in the durable state, and the others wait.
+/// There is a batch if a command waits, none is in flight, and the core still writes. After the batch is acknowledged, its
+/// commands are in the durable state and the others wait.
 pub fn a_batch_of_a_core()
     ensures nothing { has_batch (blank_core []) ≡ false }
     ensures there { has_batch (blank_core (configure_one ∷ [])) ≡ true }
@@ -97,8 +99,8 @@ pub fn a_port_of_a_core()
     ensures no_view { view_at (core_with_set []) 2 ≡ None }
 {}
 
-/// A port that was never configured gives no permit to upload; behind a Configure that waits it does, to its device
-/// alone and one at a time.
+/// A port that was never configured gets no permit to upload; after a waiting Configure it gets one, for its device only and one
+/// at a time.
 pub fn a_permit_to_upload()
     ensures blank { upload_fault (blank_core []) 1 500 43981 ≡ Some permit.NotAllowed }
     ensures waits { upload_fault (blank_core (configure_one ∷ [])) 1 500 43981 ≡ None }
@@ -113,7 +115,7 @@ pub fn a_permit_to_upload()
     ensures another { is_out (with_permit (blank_core []) 1 (Some (Upload (grant_at 1)))) (grant_at 2) ≡ false }
 {}
 
-/// The durable set goes to its device, unless that has it already by its checksum, or a Clear waits.
+/// The durable set is downloaded to its device, unless the device has the same checksum or a Clear waits.
 pub fn a_permit_to_download()
     ensures given { download_fault (core_with_set []) 1 500 43981 590 ≡ None }
     ensures same { download_fault (core_with_set []) 1 500 43981 591 ≡ Some download.Same }
@@ -127,8 +129,7 @@ pub fn a_permit_to_download()
     ensures blank { download_fault (blank_core []) 1 500 43981 590 ≡ Some download.NotAllowed }
 {}
 
-/// What is attended and downloaded is the present set, and a Rollback that waits does not change it: it does once it is
-/// acknowledged.
+/// The set that a port attends to and downloads is the present one. A waiting Rollback changes it only once it is acknowledged.
 pub fn the_present_set()
     ensures attended { work_at (core_with (renewed_port ∷ []) (Rollback 1 ∷ []) None) 1
         ≡ Some (record { revision = 1; config = example_config; checksum = Some 594 }) }

@@ -1,4 +1,4 @@
-//! Permits of ports: each is out until it is spent.
+//! Permits of ports. Each permit is out until it is spent.
 
 ghost use Rattle.std.specs.Prelude.{◌≡◌};
 ghost use Rattle.iol_core.specs.Permits.{same_grant};
@@ -17,7 +17,7 @@ pub struct UploadGrant {
 }
 
 impl UploadGrant {
-    // Whether another is for the same.
+    // Whether another grant is equal.
     pub(crate) fn is_same(&self, other: &UploadGrant) -> bool
         ensures { result ≡ same_grant self.now other.now }
     {
@@ -29,15 +29,15 @@ impl UploadGrant {
     }
 }
 
-/// What the permit of a port is for that is out.
+/// What a port's permit that is out is for.
 #[derive(Clone, Copy, Debug, PartialEq, Eq)]
 pub enum Grant {
     Upload(UploadGrant),
     Download,
 }
 
-/// The permit to upload a set from a device. It cannot be copied, and must be spent: by `Core::finish_upload` or
-/// `Core::abandon_upload`. A contract sees what it is for.
+/// The permit to upload a set from a device. It cannot be copied, and must be spent by `Core::finish_upload` or
+/// `Core::abandon_upload`. Contracts see it as its grant.
 #[derive(Debug)]
 pub struct UploadPermit {
     grant: UploadGrant,
@@ -52,21 +52,21 @@ impl Model for UploadPermit {
 }
 
 impl UploadPermit {
-    // The permit for this.
+    // Creates the permit for this grant.
     pub(crate) fn of(grant: UploadGrant) -> UploadPermit
         ensures { result ≡ grant }
     {
         UploadPermit { grant }
     }
 
-    /// What it is for.
+    /// What the permit is for.
     pub fn grant(&self) -> UploadGrant
         ensures { result ≡ self.now }
     {
         self.grant
     }
 
-    // Spends it.
+    // Spends the permit.
     pub(crate) fn spend(self) -> UploadGrant
         ensures { result ≡ self }
     {
@@ -75,8 +75,8 @@ impl UploadPermit {
     }
 }
 
-/// The permit to download a set to the device of a port. It cannot be copied, and must be spent, by
-/// `Core::end_download`. A contract sees the port's number.
+/// The permit to download a set to the device of a port. It cannot be copied, and must be spent by
+/// `Core::end_download`. Contracts see it as the port's number.
 #[derive(Debug)]
 pub struct DownloadPermit {
     port: PortId,
@@ -91,14 +91,14 @@ impl Model for DownloadPermit {
 }
 
 impl DownloadPermit {
-    // The permit of this port.
+    // Creates the permit of this port.
     pub(crate) fn of(port: PortId) -> DownloadPermit
         ensures { result ≡ port }
     {
         DownloadPermit { port }
     }
 
-    // Spends it.
+    // Spends the permit.
     pub(crate) fn spend(self) -> PortId
         ensures { result ≡ self }
     {

@@ -1,4 +1,4 @@
-//! What ports and clients learn of a port.
+//! What ports and clients can read of a port.
 
 ghost use Rattle.std.specs.Prelude.{◌≡◌, IsSome, IfOk, OnOk, OnErr};
 ghost use mathlib.Core.List.{IsPrefix};
@@ -14,8 +14,7 @@ use iol_front::{Name, Pass};
 use iol_types::{MasterState, PortConfig, PortId, PortState, StoredSet};
 use std::alloc::AllocError;
 
-/// What a port is to work with: its live configuration and revision, and the checksum of its durable set, if there is
-/// one.
+/// What a port works with: its live configuration and revision, and the checksum of its durable set, if there is one.
 #[derive(Clone, Copy, Debug, PartialEq, Eq)]
 pub struct Work {
     pub config: PortConfig,
@@ -31,7 +30,7 @@ pub struct View {
 }
 
 impl<F: Name> Core<F> {
-    /// What a port is to work with; `None` where there is no such port.
+    /// Returns what a port works with; `None` if there is no such port.
     pub fn attend(&self, port: PortId) -> Option<Work>
         ensures { result ≡ work_at self.now port }
     {
@@ -45,18 +44,18 @@ impl<F: Name> Core<F> {
         }
     }
 
-    // What is stored for a port in the durable state.
+    // The set that is stored for a port in the durable state.
     pub(crate) fn stored(&self, port: PortId) -> Option<&StoredSet>
         ensures { option_map (λ stored. stored_of stored.now) result ≡ durable_set self.now port }
     {
         self.durable.port(port)?.stored()
     }
 
-    /// The durable state of a port, its set shared, or `None` where there is no such port. The given pass meets the
-    /// core's own, so that it has then seen each durable command.
+    /// Returns the durable state of a port, its set shared, or `None` if there is no such port. The given pass meets
+    /// the core's own, and has then seen each durable command.
     ///
     /// # Errors
-    /// `AllocError` where it is out of memory; nothing changes. A port without a durable set takes none.
+    /// `AllocError` if out of memory; nothing changes. A port without a durable set needs no memory.
     pub fn view(&mut self, port: PortId, pass: &mut Pass<F>) -> Result<Option<View>, AllocError>
         ensures view { IfOk result (λ view. view ≡ view_at self.old port) }
         ensures others { self.new ≡ record self.old { seen = self.new.seen } }
@@ -71,7 +70,8 @@ impl<F: Name> Core<F> {
         Ok(view)
     }
 
-    /// The pass has then seen each durable command. Returns the number of the last one. It takes no memory.
+    /// Lets the pass meet the core's own, so that it has seen each durable command. Returns the number of the last
+    /// one. It allocates no memory.
     pub fn meet(&mut self, pass: &mut Pass<F>) -> u64
         ensures number { result ≡ self.old.number }
         ensures others { self.new ≡ record self.old { seen = self.new.seen } }
@@ -84,7 +84,7 @@ impl<F: Name> Core<F> {
     }
 }
 
-// The port of a durable state with this number, its set shared.
+// Copies the port from the durable state, its set shared; `number` is that of the last durable command.
 fn view_of(durable: &MasterState, number: u64, port: PortId) -> Result<Option<View>, AllocError>
     ensures view { IfOk result (λ view.
         view ≡ option_map (λ p. record { port = p; number = number }) (port_numbered durable.now port)) }

@@ -1,21 +1,22 @@
-//! Why a core takes no more.
+//! Why a core accepts no more commands and uploads.
 
 ghost use Rattle.std.specs.Prelude.{◌≡◌};
 ghost use Rattle.iol_core.specs.Submit.{stopped_by};
 
-/// Why no more commands and no more uploads are taken.
+/// Why no more commands and uploads are accepted.
 #[derive(Clone, Copy, Debug, PartialEq, Eq)]
 pub enum StopCause {
-    /// The master is shut down: what waits is still written.
+    /// The master is shut down: waiting commands are still written.
     Closed,
-    /// A call of the disk failed: nothing more is written.
+    /// A disk call failed: nothing more is written.
     DiskFailed,
-    /// The master ends, and memory ran out for what waits: nothing more is written, and the disk is sound.
+    /// The master ends, and memory ran out for the waiting commands: nothing more is written, and the disk
+    /// is sound.
     OutOfMemory,
 }
 
 impl StopCause {
-    // The cause once this one has come to an earlier one, if there was one.
+    // The cause that remains when this one comes after an earlier one, if there was one.
     pub(crate) fn after(self, stopped: Option<StopCause>) -> StopCause
         ensures { result ≡ stopped_by stopped self }
     {

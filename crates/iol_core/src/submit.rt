@@ -1,4 +1,4 @@
-//! Commands that clients ask for.
+//! Commands that clients submit.
 
 ghost use Rattle.std.specs.Prelude.{◌≡◌};
 ghost use Rattle.iol_types.specs.Command.{command_of, value_of};
@@ -10,11 +10,12 @@ use iol_front::Name;
 use iol_types::{Change, Command};
 
 impl<F: Name> Core<F> {
-    /// Takes a change behind those that wait, under the next number. It takes no memory.
+    /// Appends a change to the waiting commands, under the next number. It allocates no memory.
     ///
     /// # Errors
-    /// The first cause, in the order of [`SubmitFault`]: `Stopped`; `Command` where the change does not pass in the
-    /// live state; `QueueFull` where 64 commands wait; `Exhausted` where the last number is 2^62. Nothing changes.
+    /// The first cause that applies, in the order of [`SubmitFault`]: `Stopped`; `Command` if the change does not
+    /// pass in the live state; `QueueFull` if 64 commands wait; `Exhausted` if the last number is 2^62. Nothing
+    /// changes.
     pub fn submit(&mut self, change: Change) -> Result<Ticket, SubmitFault>
         ensures { IsSubmit self.old (command_of change) self.new result }
     {
@@ -26,7 +27,7 @@ impl<F: Name> Core<F> {
         }
     }
 
-    // Why a command is refused.
+    // Why a command is refused, or `None` if it is accepted.
     fn submit_fault(&self, command: &Command) -> Option<SubmitFault>
         ensures { result ≡ submit_fault self.now (value_of command.now) }
     {
@@ -39,7 +40,7 @@ impl<F: Name> Core<F> {
         }
     }
 
-    /// What is known of a command that was accepted.
+    /// Returns what is known of an accepted command.
     pub fn ticket(&self, ticket: Ticket) -> TicketState
         ensures { result ≡ ticket_state self.now ticket }
     {
@@ -53,7 +54,7 @@ impl<F: Name> Core<F> {
     }
 }
 
-// A command that says what a change says.
+// The command of a change.
 fn command_of(change: &Change) -> Command
     ensures { value_of result ≡ command_of change.now }
 {

@@ -1,4 +1,4 @@
-//! What a client learns of its command.
+//! What a client can know of its command.
 
 ghost use Rattle.std.specs.Prelude.{◌≡◌};
 
@@ -6,7 +6,7 @@ use iol_types::CommandFault;
 use std::marker::Model;
 use thiserror::Error;
 
-/// A command that was accepted, by its number.
+/// An accepted command, identified by its number.
 #[derive(Clone, Copy, Debug, PartialEq, Eq)]
 pub struct Ticket {
     number: u64,
@@ -23,7 +23,7 @@ impl Model for Ticket {
 }
 
 impl Ticket {
-    // The ticket of the command with this number.
+    // Creates the ticket of the command with this number.
     pub(crate) fn of(number: u64) -> Ticket
         ensures { result ≡ number }
     {
@@ -41,18 +41,19 @@ impl Ticket {
 /// What is known of a command.
 #[derive(Clone, Copy, Debug, PartialEq, Eq)]
 pub enum TicketState {
-    /// It waits for the disk.
+    /// The command waits for the disk.
     Waiting,
-    /// It is durable.
+    /// The command is durable.
     Durable,
-    /// Nothing more is written, and it was not durable by then: nobody will know.
+    /// Nothing more is written, and the command is not known to be durable: it may or may not be
+    /// found after recovery.
     Unsure,
 }
 
-/// Why a command is refused. The causes are judged in this order.
+/// Why a command is refused. The causes are checked in this order.
 #[derive(Clone, Copy, Debug, PartialEq, Eq, Error)]
 pub enum SubmitFault {
-    /// Nothing more is taken.
+    /// No more commands are accepted.
     #[error("the master has stopped")]
     Stopped,
     /// The command does not pass in the live state.

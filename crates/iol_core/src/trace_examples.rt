@@ -1,4 +1,4 @@
-//! A trace worked out: the prover computes each of these.
+//! Worked examples of traces: the prover computes each of these.
 
 ghost use Rattle.std.specs.Prelude.{◌≡◌, [], ◌∷◌, ◌++◌, take, Some, None};
 ghost use Rattle.iol_link.specs.Link as link;
@@ -11,8 +11,8 @@ ghost use Rattle.iol_core.specs.Own.{own, status_shown};
 ghost use Rattle.iol_core.specs.Statuses.{QueueFull, Off, Uploading};
 ghost use Rattle.iol_core.specs.Words.{accepted, numbers, acked, clock_after, RiseByOne};
 
-/// Behind number 4, two commands are accepted and one is refused; the first is acknowledged at the clock 9, and then
-/// a disk call fails.
+/// After number 4, two commands are accepted and one is refused; the first is acknowledged at the clock 9, and then a disk
+/// call fails.
 pub fn two_commands()
     ensures commands { accepted (stamped 7 (Accepted 5 (Clear 1) ∷ Refused QueueFull ∷ Accepted 6 (Clear 2) ∷ []))
         ≡ Clear 1 ∷ Clear 2 ∷ [] }
@@ -26,8 +26,8 @@ pub fn two_commands()
     ensures latest { clock_after 3 (stamped 7 (Acknowledged 5 ∷ []) ++ stamped 9 (Acknowledged 6 ∷ [])) ≡ 9 }
 {}
 
-/// On its first connection port 1 reads a page, and exchanges a request and an answer with its device, which it then
-/// loses; port 2 loses its own at the page.
+/// On its first connection port 1 reads a page, exchanges a request and an answer with its device, and then loses it; port 2
+/// loses its device at the read of the page.
 pub fn the_calls_of_two_links()
     ensures first { calls_told 1 (stamped 7 (trace.Page 1 0 (5 ∷ []) ∷ trace.Exchange 1 0 (6 ∷ []) (7 ∷ []) ∷ trace.Lost 2 0 None
         ∷ trace.Lost 1 0 (Some (8 ∷ [])) ∷ DiskFailed ∷ []))
@@ -41,8 +41,8 @@ pub fn the_calls_of_two_links()
         ≡ record { connection = 0; call = link.ReadPage; answer = link.Gone } ∷ [] }
 {}
 
-/// Port 1 reads a page, is uploading, and its set is accepted; what a client asks for, what is acknowledged and what another
-/// port tells is not its own.
+/// Port 1 reads a page, is uploading, and its set is accepted. Commands of clients, acknowledgements and events of another
+/// port are not its own.
 pub fn the_own_events_of_a_port()
     ensures first { (set : SetValue) → own 1 (stamped 7 (trace.Page 1 0 (5 ∷ []) ∷ trace.Changed 1 Uploading ∷ trace.Lost 2 0 None
         ∷ Accepted 5 (Clear 1) ∷ Accepted 6 (Store 1 3 set) ∷ Acknowledged 6 ∷ []))

@@ -1,4 +1,4 @@
-//! Laws of traces, which no code calls. Proofs of other crates cite them from `proofs/Words.antt` and
+//! Laws of traces, for proofs only: no code calls them. Proofs of other crates cite them from `proofs/Words.antt` and
 //! `proofs/CrashPrefix.antt`.
 
 ghost use Rattle.std.specs.Prelude.{◌≡◌, ℕ, true, IsTrue, List, ◌++◌, All};
@@ -13,17 +13,17 @@ ghost use Rattle.iol_core.specs.CrashPrefix.{CrashPrefix, marks_of};
 
 use iol_link::DeviceLink;
 
-/// What is accepted in more events is accepted behind what was.
+/// Commands accepted in later events come after those accepted before.
 pub fn accepts_behind()
     ensures { (events more : List Stamp) → accepted (events ++ more) ≡ accepted events ++ accepted more }
 {}
 
-/// What is acknowledged after more events.
+/// How far commands are acknowledged after more events.
 pub fn acknowledges_behind()
     ensures { (first : ℕ) (events more : List Stamp) → acked first (events ++ more) ≡ acked (acked first events) more }
 {}
 
-/// Where each image since a moment of a run has what was acknowledged by then, that is what a power stop leaves of it.
+/// If every image since a moment of a run has all commands acknowledged by then, the run satisfies `CrashPrefix`.
 pub fn leaves_a_prefix()
     ensures { (d : Disk) (begun first : ℕ) (start : State) (events : List Stamp) → legal start (accepted events) ≡ true
         → RiseByOne first (numbers events)
@@ -32,7 +32,7 @@ pub fn leaves_a_prefix()
         → CrashPrefix d begun first start events }
 {}
 
-/// Where one run of a port's link ends another may begin, and what is told of both is told of one run.
+/// A link run that begins where another ends joins it: the events of both are the events of one run.
 pub fn link_runs_join<L: DeviceLink>()
     ensures { (port : ℕ) (events more : List Stamp) (first middle last : L) → IsLinkRun L.number L.steps port events first middle
         → IsLinkRun L.number L.steps port more middle last → IsLinkRun L.number L.steps port (events ++ more) first last }

@@ -1,4 +1,4 @@
-//! Uploads: a permit before, and the set that is to be stored after.
+//! Uploads: a port gets a permit before, and gives the set to be stored after.
 
 ghost use Rattle.std.specs.Prelude.{◌≡◌, ℕ, true, false, Some, None, IfOk, IfErr, OnOk};
 ghost use Rattle.iol_types.specs.DataSet.{SetValue};
@@ -17,7 +17,7 @@ use iol_types::{Command, DataSet, DeviceId, PortId};
 use std::sync::Arc;
 use thiserror::Error;
 
-/// Why a port gets no permit to upload. The causes are judged in this order.
+/// Why a port gets no permit to upload. The causes are checked in this order.
 #[derive(Clone, Copy, Debug, PartialEq, Eq, Error)]
 pub enum PermitFault {
     /// Nothing more is taken.
@@ -29,32 +29,32 @@ pub enum PermitFault {
     /// The port's configuration names another device.
     #[error("the port is configured for another device")]
     WrongDevice,
-    /// A permit of the port is out.
+    /// The port already has a permit.
     #[error("the port has a permit")]
     Taken,
 }
 
-/// Why an upload is not finished. The causes are judged in this order.
+/// Why an upload is not finished. The causes are checked in this order.
 #[derive(Debug)]
 pub enum FinishFault {
-    /// Nothing more is taken. The permit is spent.
+    /// No more uploads are accepted. The permit is spent.
     Stopped,
-    /// The port was configured since the permit was given, or the permit is not out. It is spent.
+    /// The port was configured after the permit was granted, or the permit is not out. The permit is spent.
     ConfigChanged,
-    /// 64 commands wait. The permit and the set come back.
+    /// 64 commands wait. The permit and the set are returned.
     QueueFull(UploadPermit, Arc<DataSet>),
-    /// No number is left. The permit and the set come back.
+    /// No number is left. The permit and the set are returned.
     Exhausted(UploadPermit, Arc<DataSet>),
-    /// Out of memory. The permit and the set come back.
+    /// Out of memory. The permit and the set are returned.
     Memory(UploadPermit, Arc<DataSet>),
 }
 
 impl<F: Name> Core<F> {
-    /// The permit to upload a set from a device that the port is configured for, at the port's live revision and a
-    /// connection of its link. It takes no memory.
+    /// Grants a permit to upload a set from a device that the port is configured for, at the port's live revision and
+    /// a connection of its link. It allocates no memory.
     ///
     /// # Errors
-    /// The first cause, in the order of [`PermitFault`]; nothing changes.
+    /// The first cause that applies, in the order of [`PermitFault`]; nothing changes.
     pub fn begin_upload(
         &mut self,
         port: PortId,
@@ -75,7 +75,7 @@ impl<F: Name> Core<F> {
         Ok(UploadPermit::of(grant))
     }
 
-    /// Gives a permit to upload back, with nothing to store. One that is not out changes nothing.
+    /// Returns a permit to upload, with nothing to store. A permit that is not out changes nothing.
     pub fn abandon_upload(&mut self, permit: UploadPermit)
         ensures { self.new ≡ without_upload self.old permit }
     {
@@ -85,12 +85,12 @@ impl<F: Name> Core<F> {
         }
     }
 
-    /// Takes the Store of a set that was uploaded under a permit, behind the commands that wait. The set is stored
-    /// under the configuration that the port had when the permit was given, or not at all.
+    /// Appends a Store of an uploaded set to the waiting commands, and spends the permit. The set is stored under the
+    /// configuration that the port had when the permit was granted, or not at all.
     ///
     /// # Errors
-    /// The first cause, in the order of [`FinishFault`]: `Stopped` and `ConfigChanged` spend the permit; `QueueFull`,
-    /// `Exhausted` and `Memory` hand permit and set back, and nothing changes.
+    /// The first cause that applies, in the order of [`FinishFault`]: `Stopped` and `ConfigChanged` spend the permit;
+    /// `QueueFull`, `Exhausted` and `Memory` return the permit and the set, and nothing changes.
     pub fn finish_upload(
         &mut self,
         permit: UploadPermit,
@@ -98,7 +98,7 @@ impl<F: Name> Core<F> {
     ) -> Result<Ticket, FinishFault>
         requires { (set.value.vendor ≡ permit.vendor) × (set.value.device ≡ permit.device) }
         ensures finish { IsFinish self.old permit set.value self.new result }
-        // A Store that waits passes in the live state.
+        // A Store that is appended passes in the live state.
         ensures passes { OnOk result (check (live self.old) (store_of permit set.value) ≡ None) }
     {
         if self.is_stopped() {
@@ -116,7 +116,7 @@ impl<F: Name> Core<F> {
         }
     }
 
-    // The live revision of a port that may upload a set from a device with these numbers.
+    // Returns the live revision of a port that may upload a set from a device with these IDs.
     fn upload_revision(
         &self,
         port: PortId,
@@ -158,7 +158,7 @@ impl<F: Name> Core<F> {
         }
     }
 
-    // Whether this permit is out and its port was not configured since.
+    // Whether this permit is out and its port was not configured since it was granted.
     fn is_current(&self, grant: &UploadGrant) -> bool
         ensures current { result ≡ true → (is_out self.now grant.now ≡ true)
             × (revision_at (live self.now) grant.now.port ≡ grant.now.revision) }
@@ -174,7 +174,7 @@ impl<F: Name> Core<F> {
             }
     }
 
-    // Takes the Store of a set, for which there is room, and spends its permit.
+    // Appends the Store of a set to the queue, which has capacity for it, and spends its permit.
     fn store(&mut self, permit: UploadPermit, set: Arc<DataSet>) -> Result<Ticket, FinishFault>
         requires may { MayFinish self.old permit }
         requires passes { check (live self.old) (store_of permit set.value) ≡ None }

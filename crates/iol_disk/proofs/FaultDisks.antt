@@ -8,13 +8,13 @@ use Rattle.iol_disk.specs.declared.fault.DiskFault.{DiskFault}
 use Rattle.iol_disk.specs.declared.fault_disk.Due.{Due}
 use Rattle.iol_disk.specs.declared.fault_disk.Due.TheVariants.{Never, After as AfterOthers, Past}
 
--- a write that was made has written these octets, or some
+-- a write that was made has written these octets, or some octets if it failed
 pub made : (n : ℕ) (octets : List ℕ) (old new : Disk) (T : Type 0) (result : Result T DiskFault)
     → OnOk result (After (wrote n octets) old new) → OnErr result (WroteSome n old new) → WroteSome n old new
 made n octets old new T (Ok x) ok err = (octets, ok)
 made n octets old new T (Err e) ok err = err
 
--- calls that were made to fail are not taken back
+-- the number of calls that were made to fail does not fall
 pub never-fewer : (kind called : DiskFault) (due : Due) → made_to_fail due ≤ made_to_fail (counted kind due called)
 never-fewer kind called due = by (is_of kind called) due
   where

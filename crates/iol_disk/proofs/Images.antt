@@ -1,4 +1,4 @@
--- Images of a content, and what writes and syncs make of them.
+-- The images of a content, and how writes and syncs change them.
 use Rattle.std.proofs.Common.{◌≡◌, ◌⊎◌, inl, inr, ⊎_elim, ℕ, ◌==◌, ◌≤◌, ◌≢◌, false, if◌then◌else◌, List, [], ◌∷◌, ◌++◌, length, drop}
 use Rattle.std.proofs.Common.{Option, Some, None, is_some, unwrap_or, refl, sym, ◌∙◌, ap, subst, arith, length-append}
 use std.Path.{fun_ext}
@@ -15,7 +15,7 @@ reads-is_image c i clean = none (c.written i) clean
     none None clean = refl
     none (Some w) clean = cc
 
--- where all is settled there is no other
+-- if all is settled, there is no other image
 pub image-settled : (c : Content) (image : Image) → IsSettled c → IsImage c image → image ≡ reads c
 image-settled c image settled is = fun_ext (λ i. clean_sector i)
   where
@@ -34,7 +34,7 @@ image-synced c image is = fun_ext (λ i. is i refl)
 abbrev pub patched : ℕ → List ℕ → Image → Image
 patched n octets image i = if i == n then octets else image i
 
--- an image after a write is one before it, but for the sector
+-- an image after a write is one before it, except in the sector
 pub image-wrote : (n : ℕ) (octets : List ℕ) (c : Content) (image : Image) → IsImage (wrote n octets c) image
     → (was : Image) × IsImage c was × ((i : ℕ) → i ≢ n → image i ≡ was i)
 image-wrote n octets c image is = (patched n (c.durable n) image, was, λ i other. elsewhere i other)
@@ -51,7 +51,7 @@ reads-wrote_here n octets c = grind (arith, nat_tests)
 pub reads-wrote_other : (n : ℕ) (octets : List ℕ) (c : Content) (i : ℕ) → i ≢ n → reads (wrote n octets c) i ≡ reads c i
 reads-wrote_other n octets c i other = grind (arith, nat_tests)
 
--- The clock does not go back, and a stop since t leaves what it might have left before, or may leave now.
+-- the clock does not go back, and a stop since t leaves what it might have left before, or may leave now
 pub record Follows (old new : Content) : Type 0 where
   pub later : clock old ≤ clock new
   pub since : (t : ℕ) (image : Image) → t ≤ clock old → IsImageSince t new image → IsImageSince t old image ⊎ IsImage new image
@@ -83,7 +83,7 @@ follows-synced c = record {
       left;
 }
 
--- since this very moment a stop leaves what it may leave now
+-- what a stop since this moment leaves is what it may leave now
 pub since-now : (c : Content) (image : Image) → IsImageSince (clock c) c image → IsImage c image
 since-now c image (inl had) = absurd (none c.past had)
   where

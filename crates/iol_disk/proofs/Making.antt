@@ -1,4 +1,4 @@
--- Calls that were made in their order, or up to one that failed, put together.
+-- Calls that were made in their order, or up to one that failed, joined together.
 use Rattle.std.proofs.Common.{◌≡◌, ◌<◌, ℕ, zero, suc, ◌+◌, ◌-◌, List, [], ◌∷◌, ◌++◌, map, take, drop, slice_get, Some, Result, Ok, Err}
 use Rattle.std.proofs.Common.{OnOk, OnErr, refl, sym, ◌∙◌, ap, subst, arith}
 use Rattle.std.specs.List.{range_with_len}
@@ -32,13 +32,13 @@ makes_write (Ok done) {here = here} sector {written = written} octets old new at
 makes_write (Err told) {here = here} sector {written = written} octets old new at same wrote_is some fault =
     failed_one (write sector octets) told old new fault.0 (subst (λ (i : ℕ). WroteSome i old new) at some) fault.1
 
--- further calls behind those that succeeded
+-- further calls after those that succeeded
 pub makes_then : (first second : List Call) (result : Result Unit DiskFault) {old between : Disk} (new : Disk) → Made first old between
     → Makes second between new result → Makes (first ++ second) old new result
 makes_then first second (Ok done) {old = old} {between = between} new made then = made_append first second old between new made then
 makes_then first second (Err told) {old = old} {between = between} new made then = failed_later first second told old between new made then
 
--- a call that succeeded, and one that failed, as a `?` tells them apart
+-- a call that succeeded, and one that failed, as a `?` distinguishes them
 pub made_of : (calls : List Call) {result : Result Unit DiskFault} {done : Unit} {old new : Disk} → result ≡ Ok done
     → Makes calls old new result → Made calls old new
 made_of calls {old = old} {new = new} is makes = subst (λ (r : Result Unit DiskFault). Makes calls old new r) is makes
@@ -48,31 +48,31 @@ pub failed_of : (calls : List Call) {result : Result Unit DiskFault} {told : Dis
     → FailedIn calls told old new
 failed_of calls {old = old} {new = new} is makes = subst (λ (r : Result Unit DiskFault). Makes calls old new r) is makes
 
--- the fault that a `?` hands on
+-- the fault that a `?` passes on
 pub hands_on : (calls : List Call) (result : Result Unit DiskFault) {told : DiskFault} {old new : Disk}
     → IsErrAnd result (λ fault. fault ≡ told)
     → FailedIn calls told old new → Makes calls old new result
 hands_on calls result is failed = let p = err_from_is_err_and result is in rw (p.1, p.2) failed
 
--- calls, and parts behind them
+-- calls, and parts after them
 abbrev pub followed : List Call → List (List Call) → List Call
 followed calls [] = calls
 followed calls (part ∷ parts) = followed (calls ++ part) parts
 
--- behind calls that failed no part is made
+-- after calls that failed, no part is made
 pub fails_early : (calls : List Call) (parts : List (List Call)) {told : DiskFault} {old new : Disk} → FailedIn calls told old new
     → FailedIn (followed calls parts) told old new
 fails_early calls [] failed = failed
 fails_early calls (part ∷ parts) {told = told} {old = old} {new = new} failed =
     fails_early (calls ++ part) parts (failed_first calls part told old new failed)
 
--- a part failed behind calls that were made
+-- a part failed after calls that were made
 pub fails_behind : (calls part : List Call) (parts : List (List Call)) {told : DiskFault} {old between new : Disk} → Made calls old between
     → FailedIn part told between new → FailedIn (followed (calls ++ part) parts) told old new
 fails_behind calls part parts {told = told} {old = old} {between = between} {new = new} made failed =
     fails_early (calls ++ part) parts (failed_later calls part told old between new made failed)
 
--- a row of calls, and those behind it
+-- a row of calls, and those after it
 row_append : (f : ℕ → Call) (s m n : ℕ) → map f (range_with_len s (m + n)) ≡ map f (range_with_len s m) ++ map f (range_with_len (s + m) n)
 row_append f s zero n =
     let start : s + 0 ≡ s = omega arith in
@@ -83,7 +83,7 @@ row_append f s (suc m) n =
     let start : s + suc m ≡ s + 1 + m = omega arith in
     rw (count, start) (ap (λ (calls : List Call). f s ∷ calls) (row_append f (s + 1) m n))
 
--- a call more of a row of calls
+-- one more call of a row of calls
 pub made_more : (f : ℕ → Call) (k : ℕ) {result : Result Unit DiskFault} {done : Unit} {old between new : Disk}
     → Made (map f (range_with_len 0 k)) old between
     → result ≡ Ok done → Makes (f k ∷ []) between new result → Made (map f (range_with_len 0 (k + 1))) old new
@@ -104,13 +104,13 @@ failed_in_row f n k {told = told} {old = old} {between = between} {new = new} be
     (sym (row_append f 0 (k + 1) (n - (k + 1))) ∙ ap (λ (m : ℕ). map f (range_with_len 0 m)) split)
     (failed_first _ _ told old new front)
 
--- the calls up to one more
+-- the calls up to the next one
 take_next : (calls : List Call) (i : ℕ) (call : Call) → slice_get calls i ≡ Some call → take (i + 1) calls ≡ take i calls ++ call ∷ []
 take_next calls i call at =
     take_more calls i call (slice_get_within calls i call at)
     ∙ ap (λ (last : Call). take i calls ++ last ∷ []) (get_or_from_slice_get calls i call call at)
 
--- one call more of a list of calls
+-- one more call of a list of calls
 pub made_next : (calls : List Call) (i : ℕ) (call : Call) {result : Result Unit DiskFault} {done : Unit} {old between new : Disk}
     → slice_get calls i ≡ Some call
     → Made (take i calls) old between → result ≡ Ok done → Makes (call ∷ []) between new result → Made (take (i + 1) calls) old new

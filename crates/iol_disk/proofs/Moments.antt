@@ -1,4 +1,4 @@
--- What a stop leaves at any moment: of one call, and of one run after another.
+-- What a stop leaves at any moment of a call, or of one run after another.
 use Rattle.std.proofs.Common.{◌≡◌, inl, inr, ⊎_elim, ℕ, ◌≢◌, IsTrue, List, Result, Ok, Err, OnOk, OnErr, refl, sym, ◌∙◌, subst, arith}
 use Rattle.iol_disk.specs.Content.{Image, Content, reads, IsImage, clock, wrote, synced}
 use Rattle.iol_disk.specs.Disk.{Disk, After, Same, WroteSome}
@@ -18,7 +18,7 @@ started d P here = record {
   before = λ h t image le left. inl left;
 }
 
--- one change more, after which a stop leaves what has P
+-- one more change, after which a stop leaves an image that has P
 pub goes_on : (old mid new : Disk) (P : Image → Type 0) (change : Content → Content) → ((c : Content) → Follows c (change c))
     → LeavesOnly old mid P → After change mid new
     → (IsTrue old.honest → (image : Image) → IsImage new.content image → P image) → LeavesOnly old new P
@@ -87,7 +87,7 @@ and_then old mid new P first second = record {
     mid_honest : IsTrue old.honest → IsTrue mid.honest
     mid_honest h = subst IsTrue (sym first.honest) h
 
--- what has P has Q too, as far as is known of an honest disk
+-- P implies Q on an honest disk
 pub weaker : (old new : Disk) (P Q : Image → Type 0) → LeavesOnly old new P → (IsTrue old.honest → (image : Image) → P image → Q image)
     → LeavesOnly old new Q
 weaker old new P Q leaves implies = record {
@@ -99,12 +99,12 @@ weaker old new P Q leaves implies = record {
   before = λ h t image le left. ⊎_elim (λ was. inl was) (λ p. inr (implies h image p)) (leaves.before h t image le left);
 }
 
--- what a stop may leave now it may have left since
+-- what a stop may leave now is among what it may have left since
 pub each_now : (old mid : Disk) (P : Image → Type 0) → LeavesOnly old mid P → IsTrue mid.honest → (image : Image)
     → IsImage mid.content image → P image
 each_now old mid P leaves h image is = leaves.each (subst IsTrue leaves.honest h) image (inr is)
 
--- a call more that changes nothing
+-- one more call that changes nothing
 pub then_same : (old mid new : Disk) (P : Image → Type 0) → LeavesOnly old mid P → Same mid new → LeavesOnly old new P
 then_same old mid new P leaves same = and_then old mid new P leaves (leaves_same mid new P same (each_now old mid P leaves))
 

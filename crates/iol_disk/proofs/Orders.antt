@@ -1,4 +1,4 @@
--- Calls made one behind the other, and where one of them failed: how such orders join.
+-- Calls made one after another, also if one of them failed: how such orders join.
 use Rattle.std.proofs.Common.{Some, Bool, true, false, if◌then◌else◌, is_some, Option, ◌==◌, ◌≡◌, ℕ, ◌+◌, ◌<◌, ◌≤◌, IsTrue, List, [], ◌∷◌}
 use Rattle.std.proofs.Common.{◌++◌, length, zero, take, slice_get, suc, refl, sym, ◌∙◌, ap, subst, arith}
 use Rattle.std.proofs.Math.Seq.{take-append-add}
@@ -17,7 +17,7 @@ pub content_after_append : (first second : List Call) (c : Content) → content_
 content_after_append [] second c = refl
 content_after_append (call ∷ first) second c = content_after_append first second (content_after call c)
 
--- one change behind another
+-- one change after another
 after_after : (first second : Content → Content) (old between new : Disk) → After first old between → After second between new
     → After (λ c. second (first c)) old new
 after_after first second old between new one two = record {
@@ -49,7 +49,7 @@ made_append first second old between new one two = record {
   no_failure = two.no_failure ∙ one.no_failure;
 }
 
--- calls that change nothing and fail at nothing, such as reads, before, between and behind
+-- calls that change nothing and do not fail, such as reads, before, between and after
 pub made_then_same : (calls : List Call) (old between new : Disk) → Made calls old between → Same between new → new.failures
     ≡ between.failures → Made calls old new
 made_then_same calls old between new made same quiet = record {
@@ -114,7 +114,7 @@ failed_later first second fault old between new made failed = record {
   counted = failed.counted;
 }
 
--- Each image that a stop may leave on the way has P: before the first call, and behind each.
+-- each image that a stop may leave on the way has P: before the first call, and after each
 abbrev pub HasOnTheWay : List Call → Content → (Image → Type 0) → Type 0
 HasOnTheWay calls c P = (place : ℕ) (image : Image) → IsImage (content_after_all (take place calls) c) image → P image
 
@@ -122,7 +122,7 @@ follows-call : (call : Call) (c : Content) → Follows c (content_after call c)
 follows-call (write sector octets) c = follows-wrote sector octets c
 follows-call sync c = follows-synced c
 
--- so a stop at any moment of the calls leaves what has P
+-- a stop at any moment of the calls then leaves an image that has P
 pub made_leaves : (calls : List Call) (old new : Disk) (P : Image → Type 0) → Made calls old new
     → (IsTrue old.honest → HasOnTheWay calls old.content P) → LeavesOnly old new P
 made_leaves [] old new P made has = leaves_same old new P made.after (λ h. has h 0)
@@ -162,7 +162,7 @@ one_call_on [] place call c at = cc
 one_call_on (here ∷ calls) zero call c at = ap (λ (k : Call). content_after k c) (same_Some here call at)
 one_call_on (here ∷ calls) (suc place) call c at = one_call_on calls place call (content_after here c) at
 
--- a write that failed leaves what one that succeeded does, and a sync that failed what was there
+-- a failed write leaves what a successful one may leave, and a failed sync leaves what was there
 left_by_leaves : (call : Call) (old new : Disk) (P : Image → Type 0) → LeftBy call old new
     → (IsTrue old.honest → (image : Image) → IsImage old.content image → P image)
     → (IsTrue old.honest → (image : Image) → IsImage (content_after call old.content) image → P image) → LeavesOnly old new P
@@ -180,7 +180,7 @@ left_by_leaves (write sector octets) old new P (some, after) here there =
         (subst (λ (c : Content). IsImage c image) (after.content h) is) i (either (i == sector) (old.content.written i) clean)
 left_by_leaves sync old new P same here there = leaves_same old new P same here
 
--- where a call failed too
+-- the same if a call failed
 pub failed_leaves : (calls : List Call) (fault : DiskFault) (old new : Disk) (P : Image → Type 0) → FailedIn calls fault old new
     → (IsTrue old.honest → HasOnTheWay calls old.content P) → LeavesOnly old new P
 failed_leaves calls fault old new P failed has =

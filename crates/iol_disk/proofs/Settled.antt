@@ -1,4 +1,4 @@
--- Sectors that are settled one behind the other.
+-- Sectors that are settled one after another.
 use Rattle.std.proofs.Common.{◌≡◌, ℕ, ◌<◌, ◌==◌, ◌||◌, Bool, true≢false, true, false, if◌then◌else◌, List, [], ◌∷◌, Option, Some, None, Vec}
 use Rattle.std.proofs.Common.{is_some, slice_get, slice_set, length, replicate, zero, suc, sym, refl, ◌∙◌, ap, arith}
 use Rattle.std.specs.Option.{option_map}
@@ -16,7 +16,7 @@ slice_get-slice_set (c ∷ cells) zero cell (suc i) within = grind (arith, nat_t
 slice_get-slice_set (c ∷ cells) (suc n) cell zero within = grind (arith, nat_tests)
 slice_get-slice_set (c ∷ cells) (suc n) cell (suc i) within = grind (arith, nat_tests, slice_get-slice_set cells n cell i (omega arith))
 
--- one sector more
+-- one more sector
 pub settled_more : (old cells : List Cell) (n : ℕ) (cell : Cell) (i : ℕ) (listed : Bool) → n < length cells → slice_get cells n ≡ Some cell
     → slice_get cells i ≡ (if listed then option_map settled (slice_get old i) else slice_get old i)
     → slice_get (slice_set cells n (settled cell)) i
@@ -39,7 +39,7 @@ settled_more old cells n cell i listed within is so_far =
     at false same true so_far = so_far
     at false same false so_far = so_far
 
--- where exactly the sectors that were written are settled, all are
+-- if exactly the sectors that were written are settled, all are
 pub settled_all : (old new : List Cell) (listed : Vec ℕ Global) → ListsWritten old listed
     → ((i : ℕ) → slice_get new i ≡ (if is_listed listed.items i then option_map settled (slice_get old i) else slice_get old i))
     → (i : ℕ) → slice_get new i ≡ option_map settled (slice_get old i)

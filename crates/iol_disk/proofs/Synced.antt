@@ -7,7 +7,7 @@ use Rattle.iol_disk.proofs.DiskLaws.{image-synced}
 use Rattle.iol_disk.specs.Disk.{Disk, After, Same}
 use Rattle.iol_disk.specs.declared.fault.DiskFault.TheVariants.{Read}
 
--- nothing is left behind one call
+-- no call is left after one call
 pub left_behind : (c : Content) (image : Image) (place : ℕ) → IsImage (content_after_all (take {A = Call} place []) c) image
     → IsImage c image
 left_behind c image zero is = is

@@ -25,7 +25,7 @@ replaced_at-push (x ∷ rs) r i = at (i == x.sector) (replaced_at-push rs r i)
     at true rest = refl
     at false rest = rest
 
--- one listed sector more
+-- one more listed sector
 pub replaced_more : (cells : List Cell) (rs : List Replaced) (r : Replaced) (i : ℕ) (listed : Bool) → durable_of cells r.sector ≡ r.octets
     → replaced_at rs i ≡ (if listed then Some (durable_of cells i) else None)
     → replaced_at (rs ++ r ∷ []) i ≡ (if listed || (i == r.sector) then Some (durable_of cells i) else None)
@@ -60,7 +60,7 @@ intervals-push (p ∷ past) sync after =
     ap (λ (image : Image). interval_of p (undo p image) ∷ intervals (past ++ sync ∷ []) after) (undo_all-push past sync after)
     ∙ ap (λ (es : List Interval). interval_of p (undo p (undo_all past (undo sync after))) ∷ es) (intervals-push past sync after)
 
--- a sync that settles the cells, and keeps what it replaced, is the sync of the content
+-- a sync that settles the cells and keeps what it replaced is the sync of the content
 pub content-sync : (cells cells' : List Cell) (past past' : List (List Replaced)) (sync : List Replaced)
     → ((i : ℕ) → slice_get cells' i ≡ option_map settled (slice_get cells i))
     → past' ≡ past ++ sync ∷ []

@@ -1,4 +1,4 @@
--- A disk that calls left the same.
+-- A disk that calls left unchanged.
 use Rattle.std.proofs.Common.{◌≡◌, ◌≤◌, ◌<◌, ◌⊎◌, ◌-◌, ◌^◌, ℕ, IsTrue, sym, ◌∙◌, ap, subst, arith}
 use Rattle.iol_disk.specs.Content.{reads}
 use Rattle.iol_disk.specs.Disk.{Disk, Same, HasFailed}
@@ -17,6 +17,6 @@ same-then old mid new first second = record {
   content = λ h. second.content (same-honest old mid first h) ∙ first.content h;
 }
 
--- a fault behind calls that counted none
+-- a fault after calls that counted none
 pub failed_behind : (old mid new : Disk) → mid.failures ≡ old.failures → HasFailed mid new → HasFailed old new
 failed_behind old mid new quiet failed = subst (λ (n : ℕ). (n < new.failures) ⊎ (2 ^ 64 - 1 ≤ new.failures)) quiet failed

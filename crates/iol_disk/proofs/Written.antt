@@ -1,4 +1,4 @@
--- The list of the sectors that were written, as writes and syncs change it.
+-- How writes and syncs change the list of the sectors that were written.
 use Rattle.std.proofs.Common.{◌≡◌, ℕ, ◌<◌, ◌≤◌, ◌+◌, ◌==◌, ◌||◌, Bool, true, false, IsTrue, if◌then◌else◌, nat_eq, eqb, List, [], ◌∷◌, ◌++◌}
 use Rattle.std.proofs.Common.{length, Option, Some, None, Vec, is_some, slice_get, get_or, take, sym, refl, ◌∙◌, ap, subst, arith}
 use Rattle.std.specs.List.{list_any, IsDistinct}
@@ -28,12 +28,12 @@ within_from_written cells i was = at (slice_get cells i) refl was
     at (Some cell) is was = slice_get_within cells i cell is
     at None is was = cc
 
--- a sector that is listed is there
+-- a listed sector exists
 pub within_from_listed : (cells : List Cell) (listed : Vec ℕ Global) → ListsWritten cells listed → (i : ℕ)
     → IsTrue (is_listed listed.items i) → i < length cells
 within_from_listed cells listed lists i is = within_from_written cells i (sym (lists.exactly i) ∙ is)
 
--- an empty list, of sectors that were not written
+-- an empty list is right if no sector was written
 pub lists_none : (cells : List Cell) (listed : Vec ℕ Global) → listed.items ≡ [] → ((i : ℕ) → written_of cells i ≡ None)
     → length cells ≤ vec_capacity listed → ListsWritten cells listed
 unfolding IsDistinct
@@ -53,7 +53,7 @@ or_cases : (a b : Bool) (P : Type 0) → (a || b) ≡ true → (a ≡ true → P
 or_cases true b P is left right = left refl
 or_cases false b P is left right = right is
 
--- a sector that is not listed has room in the list
+-- the list has capacity for a sector that is not listed
 pub room_for_one : (cells : List Cell) (listed : Vec ℕ Global) (n : ℕ) → ListsWritten cells listed → n < length cells
     → is_some (written_of cells n) ≡ false → length listed.items < vec_capacity listed
 room_for_one cells listed n lists within clean = omega (arith, few, length_push listed.items n, lists.room)
@@ -66,7 +66,7 @@ room_for_one cells listed n lists within clean = omega (arith, few, length_push 
     few = length-le_from_distinct_below (listed.items ++ n ∷ []) (length cells)
         (IsDistinct-push nat_eq_equiv listed.items n lists.once (lists.exactly n ∙ clean)) below
 
--- what a write makes of which sectors were written
+-- which sectors were written, after a write
 wrote_also : (cells cells' : List Cell) (n : ℕ) (octets : List ℕ) (i : ℕ) → written_of cells' i
     ≡ (if i == n then Some octets else written_of cells i)
     → is_some (written_of cells' i) ≡ (is_some (written_of cells i) || (i == n))
@@ -78,7 +78,7 @@ wrote_also cells cells' n octets i writes = ap is_some writes ∙ either (i == n
     either false (Some x) = refl
     either false None = refl
 
--- after a write to a sector that is not listed
+-- the list after a write to a sector that was not listed
 pub lists_one_more : (cells cells' : List Cell) (listed listed' : Vec ℕ Global) (n : ℕ) (octets : List ℕ) → ListsWritten cells listed
     → is_some (written_of cells n) ≡ false → length cells' ≡ length cells
     → ((i : ℕ) → written_of cells' i ≡ (if i == n then Some octets else written_of cells i))

@@ -8,12 +8,12 @@ use Rattle.iol_disk.specs.Content.{Image}
 use Rattle.iol_disk.specs.declared.cell.Cell.{Cell}
 use Rattle.iol_disk.specs.declared.disk.TheConstants.{SECTOR_OCTETS}
 
--- the durable octets of a sector in memory, if it is there (own)
+-- the durable octets of a sector in memory, if it exists (own)
 abbrev pub durable_in : Option Cell → List ℕ
 durable_in (Some cell) = cell.durable
 durable_in None = []
 
--- what was written since the last sync to a sector in memory (own)
+-- the octets written to a sector in memory since the last sync, if any (own)
 abbrev pub newest_in : Option Cell → Option (List ℕ)
 newest_in (Some cell) = cell.newest
 newest_in None = None
@@ -25,7 +25,7 @@ durable_of cells i = durable_in (slice_get cells i)
 abbrev pub written_of : List Cell → ℕ → Option (List ℕ)
 written_of cells i = newest_in (slice_get cells i)
 
--- a sector once its newest octets are durable (own)
+-- a sector after its newest octets were made durable (own)
 abbrev pub settled : Cell → Cell
 settled cell = record { durable = unwrap_or cell.newest cell.durable; newest = None }
 
@@ -33,11 +33,11 @@ settled cell = record { durable = unwrap_or cell.newest cell.durable; newest = N
 abbrev pub blank_cell : Cell
 blank_cell = record { durable = replicate SECTOR_OCTETS 0; newest = None }
 
--- whether the sector stands in the list (own)
+-- whether the sector is in the list (own)
 abbrev pub is_listed : List ℕ → ℕ → Bool
 is_listed listed i = list_any (nat_eq i) listed
 
--- The list has exactly the sectors that were written, each once, and room for all (own)
+-- the list has exactly the sectors that were written, each once, and capacity for all sectors (own)
 pub record ListsWritten (cells : List Cell) (listed : Vec ℕ Global) : Type 0 where
   pub exactly : (i : ℕ) → is_listed listed.items i ≡ is_some (written_of cells i)
   pub once : IsDistinct nat_eq listed.items

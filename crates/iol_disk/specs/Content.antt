@@ -1,4 +1,4 @@
--- What a disk holds, and what a power stop may leave of it.
+-- What a disk holds, and what a power stop may leave on it.
 use Rattle.std.specs.Prelude.{◌≡◌, ◌⊎◌, ◌==◌, ℕ, Bool, false, if◌then◌else◌, List, [], ◌∷◌, ◌++◌, length, drop, Option, Some, None}
 use Rattle.std.specs.Prelude.{unwrap_or, is_some}
 
@@ -6,36 +6,36 @@ use Rattle.std.specs.Prelude.{unwrap_or, is_some}
 abbrev pub Image : Type 0
 Image = ℕ → List ℕ
 
--- the time between two syncs, as it ended: what was durable, and which sectors were written (own)
+-- the interval between two syncs, at its end: what was durable, and which sectors were written (own)
 pub record Interval : Type 0 where
   pub durable : Image
   pub pending : ℕ → Bool
 
--- what a stop at the end of such a time may leave: any octets in the sectors written in it, the durable ones
+-- what a stop at the end of an interval may leave: any octets in the sectors written in it, the durable ones
 -- elsewhere (own)
 abbrev pub IsImageOf : Interval → Image → Type 0
 IsImageOf e image = (i : ℕ) → e.pending i ≡ false → image i ≡ e.durable i
 
--- what a stop at the end of one of these times may leave (own)
+-- what a stop at the end of one of these intervals may leave (own)
 abbrev pub IsImageOfSome : List Interval → Image → Type 0
 IsImageOfSome [] image = ⊥
 IsImageOfSome (e ∷ es) image = IsImageOf e image ⊎ IsImageOfSome es image
 
--- what a disk holds: what is durable, what was written since the last sync, and the times between syncs that have
--- ended (own)
+-- what a disk holds: what is durable, what was written since the last sync, and the past intervals between syncs
+-- (own)
 pub record Content : Type 0 where
-  -- what the last sync that succeeded made sure of
+  -- what the last sync that succeeded made durable
   pub durable : Image
   -- the newest octets of each sector that was written since
   pub written : ℕ → Option (List ℕ)
-  -- the times that a sync has ended, the first one first
+  -- the intervals that a sync has ended, the first one first
   pub past : List Interval
 
--- what a read gives: the newest octets of a sector (own)
+-- what a read returns: the newest octets of a sector (own)
 abbrev pub reads : Content → Image
 reads c i = unwrap_or (c.written i) (c.durable i)
 
--- the time since the last sync, as it is now (own)
+-- the interval since the last sync, as it is now (own)
 abbrev pub now : Content → Interval
 now c = record { durable = c.durable; pending = λ i. is_some (c.written i) }
 
@@ -68,6 +68,6 @@ wrote n octets c = record {
 abbrev pub synced : Content → Content
 synced c = record { durable = reads c; written = λ i. None; past = c.past ++ now c ∷ [] }
 
--- all that was written is settled: what is read is the only image (own)
+-- all that was written is durable: what is read is the only image (own)
 abbrev pub IsSettled : Content → Type 0
 IsSettled c = (i : ℕ) → c.written i ≡ None

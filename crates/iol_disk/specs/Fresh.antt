@@ -3,7 +3,7 @@ use Rattle.std.specs.Prelude.{◌≡◌, ◌<◌, ℕ, true, [], None, replicate
 use Rattle.iol_disk.specs.Disk.{Disk}
 use Rattle.iol_disk.specs.declared.disk.TheConstants.{SECTOR_OCTETS}
 
--- a disk that was just made: so many sectors of zeros, all durable (own)
+-- a disk that was just made: this number of sectors of zeros, all durable (own)
 pub record IsFresh (sectors : ℕ) (d : Disk) : Type 0 where
   pub sectors_are : d.sectors ≡ sectors
   pub honest : d.honest ≡ true

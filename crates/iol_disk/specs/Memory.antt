@@ -4,7 +4,7 @@ use Rattle.iol_disk.specs.Disk.{Disk}
 use Rattle.iol_disk.specs.Undo.{content_of, undos}
 use Rattle.iol_disk.specs.declared.memory.MemoryDisk.{MemoryDisk}
 
--- a disk in memory as contracts see it: honest, with as many sectors as it has cells (own)
+-- a disk in memory as contracts see it: honest, with one sector for each cell (own)
 abbrev pub memory_disk : MemoryDisk → Disk
 memory_disk d = record {
   sectors = length d.cells;

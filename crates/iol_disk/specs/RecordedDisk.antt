@@ -7,10 +7,10 @@ use Rattle.iol_disk.specs.declared.recorded_disk.RecordedDisk.{RecordedDisk}
 abbrev pub recorded_on : {D : Type 0} → RecordedDisk D → D
 recorded_on recorded = recorded.disk
 
--- the calls that are recorded so far (own)
+-- the calls recorded so far (own)
 abbrev pub calls_of : {D : Type 0} → RecordedDisk D → List DiskCall
 calls_of recorded = recorded.calls.items
 
--- the calls after one more: this one is behind them, or memory ran out and they are as they were (own)
+-- the recorded calls after one more: with this call at the end, or unchanged if out of memory (own)
 abbrev pub IsRecorded : DiskCall → List DiskCall → List DiskCall → Type 0
 IsRecorded call old new = (new ≡ old ++ call ∷ []) ⊎ (new ≡ old)

@@ -10,7 +10,7 @@ pub record IsPattern (octets : List ℕ) : Type 0 where
   pub whole : length octets ≡ SECTOR_OCTETS
   pub each : EachIndex octets (λ k. slice_index octets k ≡ (if k % 2 == 0 then 0xA5 else 0x5A))
 
--- what a stop leaves of a sector with these durable octets and, where it was written since the last sync, newest ones
+-- what a stop leaves of a sector with these durable octets and, if it was written since the last sync, newest ones
 -- (own)
 abbrev pub Leaves : Pick → List ℕ → Option (List ℕ) → List ℕ → Type 0
 Leaves pick durable None left = left ≡ durable
@@ -19,7 +19,7 @@ Leaves New durable (Some newest) left = left ≡ newest
 Leaves Zero durable (Some newest) left = left ≡ replicate SECTOR_OCTETS 0
 Leaves Pattern durable (Some newest) left = IsPattern left
 
--- the disk after a stop begins anew: nothing is pending, and its clock is at 0 (own)
+-- the disk after a stop: it holds what the stop left, nothing is pending, and its clock is at 0 (own)
 pub record IsAfterStop (pick : Pick) (old new : Disk) : Type 0 where
   pub sectors : new.sectors ≡ old.sectors
   pub honest : new.honest ≡ old.honest

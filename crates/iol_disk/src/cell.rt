@@ -30,7 +30,7 @@ pub(crate) fn settle(cell: &mut Cell)
     }
 }
 
-// Leaves of the sector what a power stop does.
+// Applies a power stop to the sector; `pick` says what it leaves.
 pub(crate) fn stop(cell: &mut Cell, pick: Pick)
     ensures left { Leaves pick cell.old.durable cell.old.newest cell.new.durable }
     ensures settled { cell.new.newest ≡ None }

@@ -17,8 +17,8 @@ use std::marker::Model;
 
 // The sectors of a disk in memory.
 //
-// It lists those that were written since the last sync, so that a sync goes over no others. The list has room for
-// all sectors from the start, so that a write needs no memory.
+// The sectors written since the last sync are listed, so that a sync visits no others. The list has capacity for all
+// sectors from the start, so that a write allocates nothing.
 #[derive(Drop)]
 pub(crate) struct Cells {
     cells: Vec<Cell>,
@@ -38,7 +38,7 @@ impl Model for Cells {
 }
 
 impl Cells {
-    // So many sectors of zeros.
+    // Makes `sectors` sectors of zeros.
     pub(crate) fn new(alloc: Global, sectors: usize) -> Result<Cells, AllocError>
         ensures { IfOk result (λ cells. cells ≡ replicate sectors blank_cell) }
     {
@@ -48,7 +48,7 @@ impl Cells {
         })
     }
 
-    // How many there are.
+    // The number of sectors.
     pub(crate) fn len(&self) -> usize
         ensures { result ≡ length self.now }
     {
@@ -80,7 +80,7 @@ impl Cells {
         }
     }
 
-    // What a sync is about to replace.
+    // The durable octets that a sync is about to replace.
     pub(crate) fn replaced(&self, alloc: Global) -> Result<Vec<Replaced>, AllocError>
         ensures { IfOk result (λ sync. (i : ℕ) → replaced_at sync.items i ≡ replaces self.now i) }
     {
@@ -96,7 +96,7 @@ impl Cells {
         self.written.clear();
     }
 
-    // Leaves of each sector what a power stop does.
+    // Applies a power stop to each sector; `pick` says what it leaves.
     pub(crate) fn stop(&mut self, pick: Pick)
         ensures length { length self.new ≡ length self.old }
         ensures left { (i : ℕ) → Leaves pick (durable_of self.old i) (written_of self.old i) (durable_of self.new i) }
@@ -107,7 +107,7 @@ impl Cells {
     }
 }
 
-// So many sectors of zeros.
+// Makes `sectors` sectors of zeros.
 fn blank_cells(alloc: Global, sectors: usize) -> Result<Vec<Cell>, AllocError>
     ensures { IfOk result (λ cells. cells.items ≡ replicate sectors blank_cell) }
 {
@@ -118,7 +118,7 @@ fn blank_cells(alloc: Global, sectors: usize) -> Result<Vec<Cell>, AllocError>
     Ok(cells)
 }
 
-// Puts newest octets into a sector. Says whether it had some already.
+// Sets the newest octets of a sector. Returns whether it already had some.
 fn put(cells: &mut Vec<Cell>, n: usize, octets: &[u8; SECTOR_OCTETS]) -> bool
     requires { n < length cells.old.items }
     ensures again { result ≡ is_some (written_of cells.old.items n) }
@@ -130,7 +130,7 @@ fn put(cells: &mut Vec<Cell>, n: usize, octets: &[u8; SECTOR_OCTETS]) -> bool
     cells[n].newest.replace(*octets).is_some()
 }
 
-// Makes the newest octets of the sectors that are listed durable.
+// Makes the newest octets of the listed sectors durable.
 fn settle_listed(cells: &mut Vec<Cell>, listed: &[usize])
     requires { (i : ℕ) → IsTrue (is_listed listed.now i) → i < length cells.old.items }
     ensures length { length cells.new.items ≡ length cells.old.items }
@@ -142,7 +142,7 @@ fn settle_listed(cells: &mut Vec<Cell>, listed: &[usize])
     }
 }
 
-// Leaves of each sector what a power stop does.
+// Applies a power stop to each sector; `pick` says what it leaves.
 fn stop_all(cells: &mut Vec<Cell>, pick: Pick)
     ensures length { length cells.new.items ≡ length cells.old.items }
     ensures left { (i : ℕ) → Leaves pick (durable_of cells.old.items i) (written_of cells.old.items i) (durable_of cells.new.items i) }

@@ -1,12 +1,12 @@
 //! A disk as its callers see it.
 //!
-//! Of an honest disk it is assumed that
+//! An honest disk is assumed to behave as follows:
 //!
-//! - a read gives the newest octets of its sector,
-//! - a write touches its own sector alone,
-//! - a sync that succeeds makes durable all that was written since the last one that did, also after one that
-//!   failed (many systems drop pages then),
-//! - a sector that is settled does not change by itself.
+//! - a read returns the newest octets of its sector,
+//! - a write touches only its own sector,
+//! - a sync that succeeds makes durable all that was written since the last successful one, even after a failed one
+//!   (many systems drop pages then),
+//! - a sector that was not written since the last successful sync does not change by itself.
 //!
 //! It is not assumed that a sector is written whole, or that writes arrive in order.
 
@@ -16,26 +16,25 @@ ghost use Rattle.iol_disk.specs.Disk.{Disk, After, Same, WroteSome, FailsOnlyAs}
 
 use crate::fault::DiskFault;
 
-/// The octets of a sector.
+/// The number of octets in a sector.
 pub const SECTOR_OCTETS: usize = 512;
 
 /// A disk of sectors, numbered from 0.
 ///
 /// Each contract says what the call does to the disk's content: to what is durable, and to what was written since
 /// the last sync that succeeded. A power stop leaves the durable octets in each sector that was not written since,
-/// and any octets in the others. All this holds of an honest disk, and no call changes whether a disk is honest.
+/// and any octets in the others. All this holds for an honest disk, and no call changes whether a disk is honest.
 ///
-/// Each call that fails is counted, up to 2^64 - 1, and one that succeeds is not.
+/// Failed calls are counted, up to 2^64 - 1; successful ones are not.
 pub trait SectorDisk {
-    /// What contracts see of the disk.
+    /// The disk as contracts see it.
     ghost disk: { Self → Disk };
 
-    /// How many sectors it has.
+    /// The number of sectors of the disk.
     fn sectors(&self) -> usize
         ensures { result ≡ (disk self.now).sectors };
 
-    /// Reads the sector `n`, which is less than `sectors()`. Where it fails, `octets` is as it was, and the fault is
-    /// `Read`.
+    /// Reads sector `n`, which is less than `sectors()`. On failure, `octets` is unchanged and the fault is `Read`.
     fn read(&mut self, n: usize, octets: &mut [u8; SECTOR_OCTETS]) -> Result<(), DiskFault>
         requires { n < (disk self.old).sectors }
         ensures read { OnOk result (IsTrue (disk self.old).honest → octets.new ≡ reads (disk self.old).content n) }
@@ -43,15 +42,15 @@ pub trait SectorDisk {
         ensures same { Same (disk self.old) (disk self.new) }
         ensures fault { FailsOnlyAs DiskFault.Read (disk self.old) (disk self.new) result };
 
-    /// Writes the sector `n`, which is less than `sectors()`. Where it fails, the sector counts as written all the
-    /// same, with some octets, and the fault is `Write`.
+    /// Writes sector `n`, which is less than `sectors()`. On failure, the sector still counts as written, with some
+    /// octets, and the fault is `Write`.
     fn write(&mut self, n: usize, octets: &[u8; SECTOR_OCTETS]) -> Result<(), DiskFault>
         requires { n < (disk self.old).sectors }
         ensures wrote { OnOk result (After (wrote n octets.now) (disk self.old) (disk self.new)) }
         ensures wrote_some { OnErr result (WroteSome n (disk self.old) (disk self.new)) }
         ensures fault { FailsOnlyAs DiskFault.Write (disk self.old) (disk self.new) result };
 
-    /// Makes durable all that was written. Where it fails, nothing is settled, and the fault is `Sync`.
+    /// Makes durable all that was written. On failure, nothing counts as made durable, and the fault is `Sync`.
     fn sync(&mut self) -> Result<(), DiskFault>
         ensures synced { OnOk result (After synced (disk self.old) (disk self.new)) }
         ensures same { OnErr result (Same (disk self.old) (disk self.new)) }

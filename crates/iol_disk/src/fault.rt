@@ -1,4 +1,4 @@
-//! What a disk call says when it fails.
+//! The fault that a failed disk call returns.
 
 use thiserror::Error;
 

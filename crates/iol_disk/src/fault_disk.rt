@@ -1,4 +1,4 @@
-//! A disk of which one call fails.
+//! A disk on which one call is made to fail.
 
 ghost use Rattle.std.specs.Prelude.{◌≡◌};
 ghost use Rattle.iol_disk.specs.FaultDisk.{fails_now, counted};
@@ -7,19 +7,19 @@ ghost use Rattle.iol_disk.specs.declared.fault.DiskFault.{DiskFault};
 use crate::disk::{SECTOR_OCTETS, SectorDisk};
 use crate::fault::DiskFault;
 
-/// When the call comes that fails.
+/// When the call that fails is due.
 #[derive(Clone, Copy, PartialEq, Eq)]
 pub enum Due {
     /// Never.
     Never,
-    /// At the next call of the kind, after so many others.
+    /// After this number of other calls of the kind.
     After(u64),
-    /// It has come.
+    /// The call has already failed.
     Past,
 }
 
-/// Another disk, of which one call fails: for tests and trials of what stands on a disk. It is honest where that disk
-/// is. A write that fails so is made all the same, and a sync or a read is not.
+/// Wraps another disk and makes one of its calls fail, for tests and trials of code that uses a disk. It is honest if
+/// that disk is. A write that is made to fail is still carried out; a sync or a read is not.
 #[derive(Drop)]
 pub struct FaultDisk<D: SectorDisk> {
     disk: D,
@@ -30,7 +30,7 @@ pub struct FaultDisk<D: SectorDisk> {
 impl<D: SectorDisk> FaultDisk<D> {
     ghost use Rattle.iol_disk.specs.FaultDisk.{inner, kind_of, due_of, first_due};
 
-    /// The disk of which the `n`-th call of this kind fails, counted from 1 and once; at 0 none does.
+    /// Wraps `disk`, whose `n`-th call of this kind, counted from 1, fails once. If `n` is 0, none fails.
     pub fn new(disk: D, kind: DiskFault, n: u64) -> Self
         ensures disk { inner result ≡ disk }
         ensures kind { kind_of result ≡ kind }
@@ -43,7 +43,7 @@ impl<D: SectorDisk> FaultDisk<D> {
         FaultDisk { disk, kind, due }
     }
 
-    /// The disk as it is.
+    /// Returns the wrapped disk.
     pub fn disk(self) -> D
         ensures { result ≡ inner self }
     {
@@ -55,7 +55,7 @@ impl<D: SectorDisk> FaultDisk<D> {
         disk
     }
 
-    /// When the call comes that fails.
+    /// When the call that fails is due.
     pub fn due(&self) -> Due
         ensures { result ≡ due_of self.now }
     {
@@ -63,7 +63,7 @@ impl<D: SectorDisk> FaultDisk<D> {
     }
 }
 
-// Counts a call of a kind, and tells whether it is the one that fails.
+// Counts a call, and returns whether it is the one that fails.
 fn counts(kind: DiskFault, due: &mut Due, called: DiskFault) -> bool
     ensures fails { result ≡ fails_now kind due.old called }
     ensures counted { due.new ≡ counted kind due.old called }
@@ -96,7 +96,7 @@ impl<D: SectorDisk> SectorDisk for FaultDisk<D> {
         self.disk.sectors()
     }
 
-    /// Reads the sector `n`, or fails where the read is due to.
+    /// Reads sector `n`, or fails if this read is due to fail.
     fn read(&mut self, n: usize, octets: &mut [u8; SECTOR_OCTETS]) -> Result<(), DiskFault>
         requires { n < (failing_disk D.disk self.old).sectors }
         ensures read { OnOk result (IsTrue (failing_disk D.disk self.old).honest
@@ -116,7 +116,7 @@ impl<D: SectorDisk> SectorDisk for FaultDisk<D> {
         self.disk.read(n, octets)
     }
 
-    /// Writes the sector `n`. Where the write is due to fail it is made, and `Write` is answered.
+    /// Writes sector `n`. If this write is due to fail, it is still carried out, and `Write` is returned.
     fn write(&mut self, n: usize, octets: &[u8; SECTOR_OCTETS]) -> Result<(), DiskFault>
         requires { n < (failing_disk D.disk self.old).sectors }
         ensures wrote { OnOk result (After (wrote n octets.now) (failing_disk D.disk self.old) (failing_disk D.disk self.new)) }
@@ -136,7 +136,7 @@ impl<D: SectorDisk> SectorDisk for FaultDisk<D> {
         answer
     }
 
-    /// Makes durable all that was written, or fails where the sync is due to.
+    /// Makes durable all that was written, or fails if this sync is due to fail.
     fn sync(&mut self) -> Result<(), DiskFault>
         ensures synced { OnOk result (After synced (failing_disk D.disk self.old) (failing_disk D.disk self.new)) }
         ensures same { OnErr result (Same (failing_disk D.disk self.old) (failing_disk D.disk self.new)) }

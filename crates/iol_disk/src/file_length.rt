@@ -1,4 +1,4 @@
-//! Files that tell how long they are.
+//! Files that report their length.
 
 ghost use Rattle.std.specs.Prelude.{ℕ, IfOk};
 
@@ -6,15 +6,15 @@ use std::fs::File;
 use std::io::{self, Seek, SeekFrom};
 use std::os::unix::fs::FileTypeExt;
 
-/// A file that tells how long it is.
+/// A file that reports its length.
 pub trait FileLength {
-    /// The file may tell so many octets. Of a real file nothing is claimed.
+    /// The file may report this number of octets. Nothing is claimed of a real file.
     ghost tells: { Self → ℕ → Type 0 };
 
-    /// How many octets it has.
+    /// The number of octets in the file.
     ///
     /// # Errors
-    /// The system cannot tell.
+    /// Fails if the system cannot report the length.
     fn length(&self) -> io::Result<u64>
         ensures told { IfOk result (λ octets. tells self.now octets) };
 }

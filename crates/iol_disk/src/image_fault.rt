@@ -1,4 +1,4 @@
-//! Why an image file is not made or opened.
+//! Why an image file could not be made or opened.
 
 ghost use Rattle.iol_disk.specs.ImageFile.{IsUnlocked, IsUnopened};
 
@@ -7,13 +7,13 @@ use std::fs::TryLockError;
 use std::io::{self, ErrorKind};
 use thiserror::Error;
 
-/// Why an image file is not made or opened.
+/// Why an image file could not be made or opened.
 #[derive(Clone, Copy, Debug, PartialEq, Eq, Error)]
 pub enum ImageFault {
-    /// There is no such file, or it may not be opened; or it cannot be made, also where one is there.
+    /// The file does not exist or may not be opened, or it cannot be made, for example because it exists.
     #[error("the image file cannot be opened or made")]
     Open,
-    /// It is open already, here or in another process.
+    /// The file is open already, in this process or another one.
     #[error("the image file is in use")]
     InUse,
     /// A later call of the file failed.
@@ -23,7 +23,7 @@ pub enum ImageFault {
     Memory,
 }
 
-// Why a file is not opened or made.
+// Returns why a file could not be opened or made.
 pub(crate) fn unopened(error: io::Error) -> ImageFault
     ensures { IsUnopened result }
 {
@@ -33,7 +33,7 @@ pub(crate) fn unopened(error: io::Error) -> ImageFault
     }
 }
 
-// Why an open file is not locked.
+// Returns why an open file could not be locked.
 pub(crate) fn unlocked(error: TryLockError) -> ImageFault
     ensures { IsUnlocked result }
 {

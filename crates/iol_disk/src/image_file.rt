@@ -13,15 +13,15 @@ use std::rt::Files;
 /// An image file as a disk: a file of whole sectors of 512 octets, from its first octet on (docs/FORMATS.md, "Image
 /// files"). What follows the last whole sector is neither read nor written.
 ///
-/// Nothing is known of what a file keeps, so it is not honest, and no contract promises its content. How many sectors it
-/// has is told once, when it is made or opened. A call goes on where the system took or gave only a part, and takes no
-/// memory. The file is locked for as long as it is open, so it is opened once at a time; what does not ask for the lock can
-/// write to it all the same. If something cuts the file meanwhile, its next write or sync fails, so that nothing is reported as
-/// durable in a file that has lost sectors.
+/// Nothing is known of what a file keeps, so it is not honest, and no contract promises its content. The number of sectors
+/// is determined once, when the file is made or opened. A call continues if the system transfers only a part, and allocates
+/// no memory. The file is locked for as long as it is open, so it is opened once at a time; a program that does not request
+/// the lock can still write to it. If the file is truncated meanwhile, its next write or sync fails, so that nothing is
+/// reported as durable in a file that has lost sectors.
 #[derive(Drop)]
 pub struct ImageFile<F> {
     file: F,
-    // how long the file was when it was made or opened
+    // the length of the file when it was made or opened
     octets: u64,
     failures: u64,
 }
@@ -33,13 +33,13 @@ impl<F: FileExt + OpenFile + LockFile + Drop> ImageFile<F> {
     ghost use Rattle.iol_disk.specs.declared.image_fault.ImageFault.TheVariants.{Open};
     ghost use Rattle.iol_disk.specs.ImageFile.{file_disk, HasTold, IsUncut, IsUnknown, IsCreateFault, IsOpenFault};
 
-    /// Makes the file at `path`, of so many sectors of zeros, and settles it, so that a later sync has no more than
-    /// octets to make durable. A file that is there is left alone.
+    /// Makes the file at `path`, of `sectors` sectors of zeros, and makes it durable with its entry in the folder, so that
+    /// a later sync has only octets to make durable. An existing file is left alone.
     ///
     /// # Errors
-    /// `Open` where the file cannot be made, as where one is there or no file can have so many octets, or `Memory`; there
-    /// is no new file then, unless it was made and could not be locked. `InUse` where another was first to lock the new file.
-    /// `Disk` where a call on the new file fails, by `Write` or by `Sync`: the file stays, with fewer zeros or not settled.
+    /// `Open` if the file cannot be made, for example because it exists or no file can have that many octets, or `Memory`.
+    /// No new file remains then, unless it was made but could not be locked. `InUse` if the new file was locked elsewhere first.
+    /// `Disk` with `Write` or `Sync` if such a call on the new file fails: the file stays, with fewer zeros or not durable.
     pub fn create<R: Files<File = F>>(
         rt: &R,
         path: &str,
@@ -72,10 +72,10 @@ impl<F: FileExt + OpenFile + LockFile + Drop> ImageFile<F> {
     /// Opens the file at `path`, to read and to write.
     ///
     /// # Errors
-    /// `Open` where it cannot be opened, as where there is none, or `Memory`; `InUse` where it is open already, here or in
-    /// another process; `Disk` of `Read` where its length cannot be read.
+    /// `Open` if it cannot be opened, for example because it does not exist, or `Memory`; `InUse` if it is open already, in
+    /// this process or another one; `Disk` with `Read` if its length cannot be read.
     pub fn open<R: Files<File = F>>(rt: &R, path: &str) -> Result<ImageFile<F>, ImageFault>
-        // Its sectors are the whole ones of a length that the file told.
+        // The disk has the whole sectors of a length that the file reported.
         ensures told { IfOk result (λ opened. HasTold F.tells opened) }
         ensures unknown { IfOk result (λ opened. IsUnknown (file_disk opened)) }
         ensures fault { IfErr result IsOpenFault }
@@ -95,7 +95,7 @@ impl<F: FileExt + OpenFile + LockFile + Drop> ImageFile<F> {
         })
     }
 
-    // Where a sector begins in the file.
+    // The offset of a sector in the file.
     fn first_octet(&self, n: usize) -> u64
         requires { n < (file_disk self.now).sectors }
         ensures { result ≡ n * SECTOR_OCTETS }
@@ -121,7 +121,7 @@ impl<F: FileExt + OpenFile + LockFile + Drop> ImageFile<F> {
         }
     }
 
-    // Writes a sector of a file that was not cut: a write beyond a cut would fill the gap with zeros.
+    // Writes a sector of a file that was not truncated: a write beyond its end would fill the gap with zeros.
     fn write_uncut(&self, n: usize, octets: &[u8; SECTOR_OCTETS]) -> io::Result<()>
         requires place { n < (file_disk self.now).sectors }
         requires uncut { IsUncut F.tells self.now }
@@ -129,7 +129,7 @@ impl<F: FileExt + OpenFile + LockFile + Drop> ImageFile<F> {
         self.file.write_all_at(octets, self.first_octet(n))
     }
 
-    // Checks that the file was not cut, and then writes a sector of it.
+    // Checks that the file was not truncated, and then writes a sector of it.
     fn write_whole(&self, n: usize, octets: &[u8; SECTOR_OCTETS]) -> io::Result<()>
         requires { n < (file_disk self.now).sectors }
         ensures uncut { OnOk result (IsUncut F.tells self.now) }
@@ -138,7 +138,7 @@ impl<F: FileExt + OpenFile + LockFile + Drop> ImageFile<F> {
         self.write_uncut(n, octets)
     }
 
-    // Has the system keep what was written, and then checks that the file was not cut.
+    // Makes durable what was written, and then checks that the file was not truncated.
     fn sync_whole(&self) -> io::Result<()>
         ensures uncut { OnOk result (IsUncut F.tells self.now) }
     {
@@ -146,7 +146,7 @@ impl<F: FileExt + OpenFile + LockFile + Drop> ImageFile<F> {
         self.check_length()
     }
 
-    // Returns what a disk call returns, from the end of its call of the file. A failure is counted.
+    // Turns the result of a call of the file into the result of the disk call, and counts a failure.
     fn counted(&mut self, ended: io::Result<()>, fault: DiskFault) -> Result<(), DiskFault>
         ensures same { Same (file_disk self.old) (file_disk self.new) }
         ensures ended { OnOk result (ended ≡ Ok (tt {0})) }
@@ -175,7 +175,7 @@ impl<F: FileExt + OpenFile + LockFile + Drop> SectorDisk for ImageFile<F> {
     }
 
     fn read(&mut self, n: usize, octets: &mut [u8; SECTOR_OCTETS]) -> Result<(), DiskFault> {
-        // A read that fails may have filled a part of the sector.
+        // A failed read may have filled a part of the buffer.
         let mut found = [0; SECTOR_OCTETS];
         let ended = self.file.read_exact_at(&mut found, self.first_octet(n));
         self.counted(ended, DiskFault::Read)?;

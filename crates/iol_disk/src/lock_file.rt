@@ -8,7 +8,7 @@ pub trait LockFile: FileLength {
     /// Locks the file until it is closed, or its process ends.
     ///
     /// # Errors
-    /// `WouldBlock` where the file is locked already; `Error` where the system cannot lock it.
+    /// `WouldBlock` if the file is locked already; `Error` if the system cannot lock it.
     fn try_lock(&self) -> Result<(), TryLockError>;
 }
 

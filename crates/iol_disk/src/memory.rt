@@ -9,9 +9,9 @@ use std::alloc::{AllocError, Global};
 
 /// A disk in memory, for tests and trials. It is honest, and it can be stopped.
 ///
-/// It keeps for each sync what the sync replaced, so that contracts can speak of what a stop at an earlier moment
-/// might have left. A sync that finds no memory for that fails; nothing else does. A sync takes time and memory for
-/// the sectors written since the last one, and a write takes no memory.
+/// It keeps the octets that each sync replaced, so that contracts can describe what a stop at an earlier moment might
+/// have left. A sync fails if it is out of memory for these octets; no other call fails. A sync takes time and memory
+/// for the sectors written since the last one, and a write allocates no memory.
 #[derive(Drop)]
 pub struct MemoryDisk {
     alloc: Global,
@@ -27,7 +27,7 @@ impl MemoryDisk {
     ghost use Rattle.iol_disk.specs.Stops.{IsAfterStop};
     ghost use Rattle.iol_disk.specs.Memory.{memory_disk};
 
-    /// A disk of so many sectors of zeros. It fails where memory does.
+    /// Makes a disk of `sectors` sectors of zeros. Fails if out of memory.
     pub fn new(alloc: Global, sectors: usize) -> Result<MemoryDisk, AllocError>
         ensures { IfOk result (λ disk. IsFresh sectors (memory_disk disk)) }
     {
@@ -39,10 +39,10 @@ impl MemoryDisk {
         })
     }
 
-    /// The disk after a power stop, which leaves of each sector written since the last sync what `pick` says.
+    /// Returns the disk after a power stop; `pick` says what it leaves of each sector written since the last sync.
     pub fn stop(self, pick: Pick) -> MemoryDisk
         ensures stopped { IsAfterStop pick (memory_disk self) (memory_disk result) }
-        // What it reads as then is an image of the disk before, and from then on the only one.
+        // What the stopped disk reads as is an image of the disk before the stop, and its only image after it.
         ensures image { IsImage (memory_disk self).content (reads (memory_disk result).content) }
         ensures only { (image : Image) → IsImage (memory_disk result).content image → image ≡ reads (memory_disk result).content }
     {
@@ -75,7 +75,7 @@ impl SectorDisk for MemoryDisk {
         self.cells.len()
     }
 
-    /// Reads the sector `n`, and never fails.
+    /// Reads sector `n`, and never fails.
     fn read(&mut self, n: usize, octets: &mut [u8; SECTOR_OCTETS]) -> Result<(), DiskFault>
         requires { n < (memory_disk self.old).sectors }
         ensures works { IsOk result }
@@ -88,7 +88,7 @@ impl SectorDisk for MemoryDisk {
         Ok(())
     }
 
-    /// Writes the sector `n`, takes no memory, and never fails.
+    /// Writes sector `n`, allocates no memory, and never fails.
     fn write(&mut self, n: usize, octets: &[u8; SECTOR_OCTETS]) -> Result<(), DiskFault>
         requires { n < (memory_disk self.old).sectors }
         ensures works { IsOk result }

@@ -1,4 +1,4 @@
-//! A new file: zeros up to its length, and durable.
+//! Fills a new file with zeros and makes it durable.
 
 ghost use Rattle.std.specs.Prelude.{◌≡◌, ◌≤◌, ◌*◌, ◌^◌, None, IfSome};
 ghost use Rattle.iol_disk.specs.declared.disk.TheConstants.{SECTOR_OCTETS};
@@ -10,13 +10,13 @@ use std::os::unix::fs::FileExt;
 use std::path::Path;
 use std::rt::Files;
 
-// How many octets are written at a time.
+// The number of octets written at a time.
 const PIECE_OCTETS: usize = 64 * SECTOR_OCTETS;
 
 // A file has fewer octets than this.
 const TOO_MANY_OCTETS: u64 = 1 << 63;
 
-// How many octets so many sectors have, where a file can have so many.
+// The file size for `sectors`, or `None` if it is too large.
 pub(crate) fn octets_of(sectors: usize) -> Option<u64>
     ensures some { IfSome result (λ octets. octets ≡ sectors * SECTOR_OCTETS) }
     ensures none { 2 ^ 63 ≤ sectors * SECTOR_OCTETS → result ≡ None }
@@ -29,7 +29,7 @@ pub(crate) fn octets_of(sectors: usize) -> Option<u64>
     }
 }
 
-// Writes so many zeros from the first octet on.
+// Writes `octets` zeros from the first octet on.
 pub(crate) fn write_zeros<F: FileExt>(file: &F, octets: u64) -> io::Result<()> {
     let zeros = [0; PIECE_OCTETS];
     for place in (0..octets).step_by(PIECE_OCTETS) {
@@ -40,7 +40,7 @@ pub(crate) fn write_zeros<F: FileExt>(file: &F, octets: u64) -> io::Result<()> {
     Ok(())
 }
 
-// Makes a new file durable, and that it is in its folder.
+// Makes a new file durable, and its entry in the folder too.
 pub(crate) fn settle<R: Files>(rt: &R, file: &R::File, path: &str) -> io::Result<()> {
     file.sync_all()?;
     let folder = match Path::new(path).parent() {

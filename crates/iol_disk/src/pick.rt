@@ -1,4 +1,4 @@
-//! What a power stop leaves of a sector that no sync has settled.
+//! What a power stop leaves of a sector that was written since the last sync.
 
 ghost use Rattle.iol_disk.specs.Stops.{IsPattern};
 
@@ -17,7 +17,7 @@ pub enum Pick {
     Pattern,
 }
 
-// A5 5A, repeated.
+// Returns a sector of A5 5A, repeated.
 pub(crate) fn pattern() -> [u8; SECTOR_OCTETS]
     ensures { IsPattern result }
 {

@@ -15,8 +15,8 @@ pub enum DiskCall {
     Sync,
 }
 
-/// Another disk, whose calls are recorded in their order: for tests and trials of what stands on a disk. A call that
-/// finds no memory to be recorded is missing, and is made all the same. It is honest where that disk is.
+/// Wraps another disk and records its calls in order, for tests and trials of code that uses a disk. If out of memory,
+/// a call is made but not recorded. It is honest if that disk is.
 #[derive(Drop)]
 pub struct RecordedDisk<D: SectorDisk> {
     disk: D,
@@ -24,7 +24,7 @@ pub struct RecordedDisk<D: SectorDisk> {
 }
 
 impl<D: SectorDisk> RecordedDisk<D> {
-    /// The disk, with no call recorded yet.
+    /// Wraps `disk`, with no call recorded yet.
     pub fn new(alloc: Global, disk: D) -> RecordedDisk<D>
         ensures disk { recorded_on result ≡ disk }
         ensures calls { calls_of result ≡ [] }
@@ -37,7 +37,7 @@ impl<D: SectorDisk> RecordedDisk<D> {
 }
 
 impl<D: SectorDisk + Drop> RecordedDisk<D> {
-    /// The calls in the order in which they were made.
+    /// Returns the recorded calls in the order in which they were made.
     pub fn calls(self) -> Vec<DiskCall>
         ensures { result.items ≡ calls_of self }
     {

@@ -1,4 +1,4 @@
-//! A slot: its five calls, each one call of the disk.
+//! A slot and its five calls, each of which makes one call of the disk.
 
 ghost use Rattle.std.specs.Prelude.{◌≡◌, ◌<◌, ◌≤◌, ◌+◌, ◌*◌, ◌^◌, ℕ, true, false, IsTrue, OnOk, OnErr, IfOk};
 ghost use Rattle.iol_disk.specs.Content.{reads, wrote};
@@ -11,23 +11,23 @@ ghost use Rattle.iol_disk.specs.Gate.{is_open, open_gate, closed_gate, body_sect
 use crate::disk::{SECTOR_OCTETS, SectorDisk};
 use crate::fault::DiskFault;
 
-/// What an open gate begins with (docs/FORMATS.md, "Gates").
+/// The octets at the beginning of an open gate (docs/FORMATS.md, "Gates").
 pub const GATE_MARK: [u8; 8] = [0xA5, 0x5A, 0xA5, 0x5A, 0xA5, 0x5A, 0xA5, 0x5A];
 
-/// The sectors of the body behind one gate.
+/// The number of body sectors after one gate.
 pub const BODY_SECTORS: usize = 16;
 
-/// Sectors of a disk, and the gate before them. A body may go on over further slots: their gates stay closed, and are
-/// not read.
+/// A gate and the body after it, as sectors of a disk. A body may extend over further slots, whose gates stay closed and
+/// are not read.
 #[derive(Clone, Copy)]
 pub struct Slot {
     /// The sector of the gate.
     pub gate: usize,
     /// The first sector of the body.
     pub body: usize,
-    /// How many slots it takes.
+    /// The number of slots that the body takes.
     pub span: usize,
-    /// How many sectors the body has.
+    /// The number of sectors in the body.
     pub sectors: usize,
     ghost gate_first: { body ≡ gate + 1 },
     ghost whole: { sectors ≡ BODY_SECTORS * span },
@@ -35,7 +35,7 @@ pub struct Slot {
 }
 
 impl Slot {
-    /// Reads the gate: whether it is open.
+    /// Reads the gate, and returns whether it is open.
     pub fn is_open<D: SectorDisk>(&self, disk: &mut D) -> Result<bool, DiskFault>
         requires { self.now.gate < (D.disk disk.old).sectors }
         ensures open { IfOk result (λ answer. IsTrue (D.disk disk.old).honest → answer
@@ -48,7 +48,7 @@ impl Slot {
         Ok(octets.starts_with(&GATE_MARK))
     }
 
-    /// Reads sector `j` of the body, counted from 0. Where it fails, `octets` is as it was.
+    /// Reads sector `j` of the body, counted from 0. On failure, `octets` is unchanged.
     pub fn read_sector<D: SectorDisk>(
         &self,
         disk: &mut D,
@@ -66,7 +66,7 @@ impl Slot {
         disk.read(self.body + j + j / BODY_SECTORS, octets)
     }
 
-    /// Writes sector `j` of the body, counted from 0. Where it fails, the sector counts as written all the same.
+    /// Writes sector `j` of the body, counted from 0. On failure, the sector still counts as written.
     pub fn write_sector<D: SectorDisk>(
         &self,
         disk: &mut D,
@@ -78,21 +78,21 @@ impl Slot {
         ensures wrote { OnOk result (After (wrote (body_sector self.now.body j) octets.now) (D.disk disk.old) (D.disk disk.new)) }
         ensures wrote_some { OnErr result (WroteSome (body_sector self.now.body j) (D.disk disk.old) (D.disk disk.new)) }
         ensures fault { FailsOnlyAs DiskFault.Write (D.disk disk.old) (D.disk disk.new) result }
-        // Behind a closed gate: the gate stays closed, whatever a stop leaves.
+        // If the gate is closed, it stays closed whatever a stop leaves.
         ensures behind { IsShut self.now.gate (D.disk disk.old)
             → LeavesOnly (D.disk disk.old) (D.disk disk.new) (λ image. is_open (image self.now.gate) ≡ false) }
     {
         disk.write(self.body + j + j / BODY_SECTORS, octets)
     }
 
-    /// Opens the gate. Where it fails, the gate counts as written all the same, and may be open or closed.
+    /// Opens the gate. On failure, the gate still counts as written, and may be open or closed.
     pub fn open_gate<D: SectorDisk>(&self, disk: &mut D) -> Result<(), DiskFault>
         requires { self.now.gate < (D.disk disk.old).sectors }
         ensures wrote { OnOk result (After (wrote self.now.gate open_gate) (D.disk disk.old) (D.disk disk.new)) }
         ensures open { OnOk result (IsTrue (D.disk disk.old).honest → is_open (reads (D.disk disk.new).content self.now.gate) ≡ true) }
         ensures wrote_some { OnErr result (WroteSome self.now.gate (D.disk disk.old) (D.disk disk.new)) }
         ensures fault { FailsOnlyAs DiskFault.Write (D.disk disk.old) (D.disk disk.new) result }
-        // Before a body that is synced: whatever a stop leaves of the gate, the body is whole.
+        // If the body is synced, it is whole whatever a stop leaves of the gate.
         ensures whole { AreSynced self.now.body self.now.sectors (D.disk disk.old) → LeavesOnly (D.disk disk.old) (D.disk disk.new)
             (λ image. (j : ℕ) → j < self.now.sectors → image (body_sector self.now.body j)
             ≡ reads (D.disk disk.old).content (body_sector self.now.body j)) }
@@ -102,7 +102,7 @@ impl Slot {
         disk.write(self.gate, &octets)
     }
 
-    /// Closes the gate. Where it fails, the gate counts as written all the same, and may be open or closed.
+    /// Closes the gate. On failure, the gate still counts as written, and may be open or closed.
     pub fn close_gate<D: SectorDisk>(&self, disk: &mut D) -> Result<(), DiskFault>
         requires { self.now.gate < (D.disk disk.old).sectors }
         ensures wrote { OnOk result (After (wrote self.now.gate closed_gate) (D.disk disk.old) (D.disk disk.new)) }

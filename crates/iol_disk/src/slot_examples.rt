@@ -1,9 +1,9 @@
-//! Facts with values from outside, which no code calls.
+//! Facts stated with literal values; no code calls them.
 
 ghost use Rattle.std.specs.Prelude.{◌≡◌, ◌≢◌, ◌<◌, ◌++◌, ◌∷◌, [], ℕ, false, replicate, slice_index, slice_set};
 ghost use Rattle.iol_disk.specs.Gate.{is_open, open_gate, closed_gate};
 
-/// An open gate is the octets A5 5A four times, and 504 zeros.
+/// An open gate is the octets A5 5A four times, then 504 zeros.
 #[tactic(auto, unfolding(crate::specs::Gate::open_gate))]
 pub fn an_open_gate()
     ensures { open_gate ≡ (0xA5 ∷ 0x5A ∷ 0xA5 ∷ 0x5A ∷ 0xA5 ∷ 0x5A ∷ 0xA5 ∷ 0x5A ∷ []) ++ replicate 504 0 }

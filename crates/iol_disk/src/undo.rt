@@ -1,4 +1,4 @@
-//! What a disk in memory keeps of each sync: the octets that it replaced, so that a proof can undo it.
+//! The octets that each sync of a disk in memory replaced, kept so that a proof can undo the sync.
 
 ghost use Rattle.std.specs.Prelude.{◌≡◌, ℕ, List, ◌<◌, [], ◌∷◌, ◌++◌, IsTrue, Some, None, if◌then◌else◌, length, OnOk, OnErr, IfOk};
 ghost use Rattle.iol_disk.specs.declared.undo.Replaced.{Replaced};
@@ -17,7 +17,7 @@ pub(crate) struct Replaced {
     pub octets: [u8; SECTOR_OCTETS],
 }
 
-// The durable octets of the sectors that are listed.
+// Copies the durable octets of the listed sectors.
 pub(crate) fn durable_octets(
     alloc: Global,
     cells: &[Cell],
@@ -38,7 +38,7 @@ pub(crate) fn durable_octets(
     Ok(sync)
 }
 
-// Keeps what a sync is about to replace.
+// Keeps the octets that a sync is about to replace.
 pub(crate) fn keep(
     alloc: Global,
     cells: &Cells,

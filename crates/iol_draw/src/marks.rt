@@ -6,7 +6,7 @@ use crate::port_marks::PortMarks;
 use iol_explain::{Explained, ToldCall, calls_before, calls_between, calls_of_run};
 use std::alloc::{AllocError, Global};
 
-// It holds the marks of a run, and how many columns they take.
+// The marks of a run, and the number of columns that they take.
 #[derive(Drop)]
 pub(crate) struct Marks<'a> {
     pub signs: Vec<Mark>,
@@ -15,7 +15,7 @@ pub(crate) struct Marks<'a> {
     pub columns: usize,
 }
 
-// It makes the marks of a run, whose explained lines these are. A call of the disk is before the event of its step.
+// Makes the marks of a run, whose explained lines are `lines`. A disk call comes before the event of its step.
 pub(crate) fn marks_of<'a>(
     alloc: Global,
     run: &Explained,

@@ -4,7 +4,7 @@ use iol_engine::Event;
 use iol_run::Stamped;
 use std::fmt;
 
-// It holds the numbers of the last commands that were accepted and acknowledged, from 1 on, and 0 for none.
+// The numbers of the last commands that were accepted and acknowledged, from 1 on, and 0 for none.
 #[derive(Clone, Copy)]
 pub(crate) struct Answered {
     accepted: u64,
@@ -12,7 +12,7 @@ pub(crate) struct Answered {
 }
 
 impl Answered {
-    // It returns what was accepted and acknowledged in these events.
+    // Returns the last commands that were accepted and acknowledged in these events.
     pub(crate) fn of(events: &[Stamped]) -> Answered {
         let (mut accepted, mut acknowledged) = (0, 0);
         for stamped in events {
@@ -49,7 +49,7 @@ impl fmt::Display for RecoveredWords {
     }
 }
 
-// It writes that all commands are there.
+// Writes that all commands are there.
 fn write_kept<W: fmt::Write>(f: &mut fmt::Formatter<W>, accepted: u64) -> fmt::Result {
     match accepted {
         0 => f.write_str("no command was accepted"),
@@ -59,7 +59,7 @@ fn write_kept<W: fmt::Write>(f: &mut fmt::Formatter<W>, accepted: u64) -> fmt::R
     }
 }
 
-// It writes that the commands of these numbers are lost.
+// Writes that the commands with these numbers are lost.
 fn write_lost<W: fmt::Write>(f: &mut fmt::Formatter<W>, first: u64, last: u64) -> fmt::Result {
     if first == last {
         write!(f, "command {first} is lost, ")
@@ -68,7 +68,7 @@ fn write_lost<W: fmt::Write>(f: &mut fmt::Formatter<W>, first: u64, last: u64) -
     }
 }
 
-// It writes whether what is lost was acknowledged, which is not to happen.
+// Writes whether the lost commands were acknowledged, which must not happen.
 fn write_whether<W: fmt::Write>(
     f: &mut fmt::Formatter<W>,
     recovered: RecoveredWords,

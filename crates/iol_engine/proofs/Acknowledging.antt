@@ -1,4 +1,4 @@
--- The number of a core does not fall, and it is the one that is told as acknowledged.
+-- The number of a core does not fall, and it is the one that is reported as acknowledged.
 use Rattle.std.proofs.Common.{◌≡◌, ◌≤◌, refl, ℕ, List, [], ◌∷◌, ◌++◌, Result, Ok}
 use Rattle.std.proofs.Common.{Err, ap, sym, ◌∙◌, subst, arith}
 use Rattle.iol_types.specs.Command.{CommandValue}
@@ -17,7 +17,7 @@ pub rise-append : (last : ℕ) (told more : List Stamp) → AcksRise last told �
 rise-append last [] more these those = those
 rise-append last (e ∷ told) more these those = (these.0, rise-append (acked_by last e.event) told more these.1 those)
 
--- what is told from one core to the next
+-- what is reported from one core to the next
 pub record Rises (old new : CoreView) (told : List Stamp) : Type 0 where
   pub rise : AcksRise old.number told
   pub number : acked old.number told ≡ new.number

@@ -1,4 +1,4 @@
--- What a call of a port makes of a core, and what is told of it.
+-- What a call of a port makes of a core, and what is reported of it.
 use Rattle.std.proofs.Common.{◌≡◌, refl, ◌+◌, ◌≤◌, ℕ, nat_le, Bool, true, false, if◌then◌else◌, List, [], ◌∷◌, length, Option, Some, None}
 use Rattle.std.proofs.Common.{Result, Ok, Err, ap, sym, ◌∙◌, rules, arith}
 use Rattle.std.proofs.lemmas.Bool.Decides.{nat_tests}
@@ -38,7 +38,7 @@ use Rattle.iol_engine.specs.PortSteps.{reply_told, store_in, attended_told, file
 abbrev pub with_permits : CoreView → List (Option Grant) → CoreView
 with_permits core permits = record core { permits = permits }
 
--- what a call of a port makes of a core: other permits are out; or a command waits behind the others, and its permit is
+-- what a call of a port makes of a core: other permits are given; or a command waits after the others, and its permit is
 -- spent
 pub data Change : Type 0 where
   Permits : (permits : List (Option Grant)) → Change
@@ -48,22 +48,22 @@ abbrev pub changed : CoreView → Change → CoreView
 changed old (Permits permits) = with_permits old permits
 changed old (Waits command permits) = with_permits (queued old command) permits
 
--- the command passes
+-- the command is legal
 abbrev pub IsPassing : CoreView → Change → Type 0
 IsPassing old (Permits permits) = Unit {0}
 IsPassing old (Waits command permits) = check (live old) command ≡ None
 
--- it was taken by a core that takes commands, which had room for it
+-- it was taken by a core that takes commands and had capacity for it
 abbrev pub HasRoom : CoreView → Change → Type 0
 HasRoom old (Permits permits) = Unit {0}
 HasRoom old (Waits command permits) = (is_stopped old ≡ false) × (length old.queue + 1 ≤ QUEUE_COMMANDS)
 
--- it is told under the next number, and nothing else that counts
+-- it is reported under the next number, and nothing else that counts
 abbrev pub Tells : CoreView → Change → List Event → Type 0
 Tells old (Permits permits) told = AreQuiet told
 Tells old (Waits command permits) told = told ≡ Accepted (live_number old + 1) command ∷ []
 
--- a core became another; where a premise holds, what it took passes
+-- a core became another; if a premise holds, the command that it took is legal
 pub record Becomes (P : Type 0) (old new : CoreView) (told : List Event) : Type 0 where
   pub change : Change
   pub new_is : new ≡ changed old change
@@ -71,7 +71,7 @@ pub record Becomes (P : Type 0) (old new : CoreView) (told : List Event) : Type 
   pub room : HasRoom old change
   pub tells : Tells old change told
 
--- a permit comes back, if it is out
+-- a permit is returned, if it was given
 pub without_permit : (core : CoreView) (port : ℕ) (there : Bool)
     → (if there then with_permit core port None else core)
     ≡ with_permits core ((if there then with_permit core port None else core).permits)
@@ -81,7 +81,7 @@ without_permit core port false = refl
 room_left : (n : ℕ) → nat_le QUEUE_COMMANDS n ≡ false → n + 1 ≤ QUEUE_COMMANDS
 room_left n is = grind (arith, nat_tests, is)
 
--- a queue that takes a command has room
+-- a queue that takes a command has capacity
 queue_open : (full last : Bool) → (if full then Some fault.QueueFull else if last then Some fault.Exhausted else None) ≡ None → full ≡ false
 queue_open true last none = search rules
 queue_open false last none = refl
@@ -139,7 +139,7 @@ finished port old new grant set (Err (finish.QueueFull permit back)) is = stays 
 finished port old new grant set (Err (finish.Exhausted permit back)) is = stays _ old new [] is.4 tt
 finished port old new grant set (Err (finish.Memory permit back)) is = stays _ old new [] is.4 tt
 
--- each call of a port makes such a change, and tells it
+-- each call of a port makes such a change, and reports it
 pub replied : (port : ℕ) (call : Call) (old new : CoreView) (heard : Reply) → Replies call old new heard
     → Becomes (Passes call old heard) old new (reply_told port (store_in call) heard)
 replied port (Attend p) old new (reply.Attended w) is = stays _ old new (attended_told port w) is.1 (attended port w)

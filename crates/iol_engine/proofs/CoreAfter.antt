@@ -1,4 +1,4 @@
--- A core stands as what was told says.
+-- A core is as the events say.
 use Rattle.std.proofs.Common.{◌≡◌, ◌≤◌, refl, ◌+◌, ◌-◌, ℕ, List, [], ◌∷◌, ◌++◌, length, take, drop, Result, Ok}
 use Rattle.std.proofs.Common.{Err, ap, sym, ◌∙◌, subst, arith, append-nil, append_assoc, length-append}
 use Rattle.std.proofs.Math.Seq.{take-append_seam}
@@ -43,7 +43,7 @@ module _ (first : ℕ) (start : State) where
       counted : acked first events - first ≡ length is.done
       counted = omega (arith, is.acked_is, is.number_is)
 
-  -- events that accept and acknowledge nothing, where the core has the same commands
+  -- events that accept and acknowledge nothing, if the core has the same commands
   pub quiet : (events more : List Stamp) (old new : CoreView) → accepted more ≡ [] → ((n : ℕ) → acked n more ≡ n) → new.queue ≡ old.queue
       → new.durable ≡ old.durable → new.number ≡ old.number → new.flight ≤ length new.queue → Stands events old
       → Stands (events ++ more) new
@@ -60,7 +60,7 @@ module _ (first : ℕ) (start : State) where
     flight = flight;
   }
 
-  -- nothing is told, and the core stays
+  -- nothing is reported, and the core stays
   pub stays : (events more : List Stamp) (old new : CoreView) → more ≡ [] → new ≡ old → Stands events old → Stands (events ++ more) new
   stays events more old new none same is =
       subst (λ (ss : List Stamp). Stands (events ++ ss) new) (sym none)
@@ -141,7 +141,7 @@ module _ (first : ℕ) (start : State) where
           (accepts t (live_number old + 1) events command old new (ap (λ (c : CoreView). c.queue) is) (ap (λ (c : CoreView). c.durable) is)
           (ap (λ (c : CoreView). c.number) is) (ap (λ (c : CoreView). c.flight) is) was)
 
-  -- a step of a port: what is called makes a change that it tells, and its status tells of none
+  -- a step of a port: its call makes a change and reports it, and its status reports none
   pub stepped_stands : (t : ℕ) (events : List Stamp) (old new : CoreView) (called status : List Event) → Becomes ⊥ old new called
       → AreQuiet status → Stands events old → Stands (events ++ stamped t (called ++ status)) new
   stepped_stands t events old new called status becomes none was =

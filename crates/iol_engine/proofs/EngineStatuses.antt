@@ -57,7 +57,7 @@ module _ (start : Start) (engine : EngineView) (is : IsEngine start engine) wher
       subst (λ (p : ℕ). status_shown p (trace_of engine) ≡ status_told status) number
       (shows (port - 1) found.0 found.1 ∙ ap status_told found.2)
 
-  -- an engine has a port where the state at the start has it
+  -- an engine has a port if the state at the start has it
   pub engine_lacks : (port : ℕ) → status_in (slice_get engine.machines (port - 1)) ≡ None → port_numbered start.state port ≡ None
   engine_lacks port none =
       let past = past_end engine.machines (port - 1) (no_machine (slice_get engine.machines (port - 1)) none) in

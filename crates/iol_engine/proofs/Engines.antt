@@ -1,4 +1,4 @@
--- An engine keeps what holds of it: its core as what is told says, and of each port a run of its machine.
+-- An engine keeps its invariant: its core is as the events say, and the events of each port are a run of its machine.
 use Rattle.std.proofs.Common.{◌≡◌, ◌≤◌, refl, ◌+◌, ◌-◌, ℕ, suc, List, [], ◌∷◌, ◌++◌, length, Some, slice_get, slice_set, Result, Ok, Err}
 use Rattle.std.proofs.Common.{take, ap, sym, ◌∙◌, subst, arith, append-nil, length-append, length-take}
 use Rattle.std.proofs.Math.Seq.{take-append_seam}
@@ -36,7 +36,7 @@ use Rattle.iol_engine.specs.Submitted.{submit_told}
 
 -- ---- what was seen
 
--- so many were seen
+-- this number of commands was seen
 take_within : {A : Type 0} (n : ℕ) (xs : List A) → length (take n xs) ≡ n → n ≤ length xs
 take_within n xs is = omega (arith, is, length-take n xs)
 
@@ -64,7 +64,7 @@ module _ (start : Start) where
   abbrev first : ℕ
   first = start.number
 
-  -- an engine that has told nothing, over what is durable
+  -- an engine that has reported nothing, over what is durable
   pub fresh_engine : (new : EngineView) → new.core.queue ≡ [] → new.core.durable ≡ start.state → new.core.number ≡ first
       → new.core.seen ≡ [] → new.core.flight ≡ 0 → new.machines ≡ new_machines (length new.connections)
       → length new.connections ≡ length start.state → new.told ≡ [] → IsEngine start new
@@ -102,7 +102,7 @@ module _ (start : Start) where
       none : first - first ≡ 0
       none = omega arith
 
-  -- what rises behind what was told
+  -- acknowledged numbers that rise after earlier events
   rises_on : (old new : EngineView) (told : List Event) → IsEngine start old → Rises old.core new.core (stamped 0 told)
       → AcksRise first (stamped 0 (old.told ++ told))
   rises_on old new told was rises =
@@ -122,7 +122,7 @@ module _ (start : Start) where
     omega (arith, is.number_is, ap length is.accepted_is, length-append is.done core.queue),
   )
 
-  -- where as many are durable, and no fewer were seen
+  -- if the same number is durable, and no fewer were seen
   known_on : (events more : List Stamp) (old new : CoreView) → IsPrefix old.seen new.seen → new.number ≡ old.number
       → Stands first start.state events old → IsKnown events old → IsKnown (events ++ more) new
   known_on events more old new kept same stands known =
@@ -140,7 +140,7 @@ module _ (start : Start) where
       seen = take_within durable old.seen
           (ap length known ∙ length-take-le durable (accepted events) (durable_in events old stands).1)
 
-  -- more is told, which is no port's own, and the ports stay
+  -- more is reported, which is no port's own, and the ports stay
   pub engine_tells : (old new : EngineView) (told : List Event) → new.machines ≡ old.machines → new.connections ≡ old.connections
       → new.told ≡ old.told ++ told → ((q : ℕ) → own q (stamped 0 told) ≡ [])
       → Stands first start.state (trace_of old ++ stamped 0 told) new.core → Rises old.core new.core (stamped 0 told)
@@ -166,7 +166,7 @@ module _ (start : Start) where
       trace : trace_of new ≡ trace_of old ++ stamped 0 told
       trace = ap (stamped 0) told_is ∙ stamped_both 0 old.told told
 
-  -- nothing is told, the ports stay, and the core has the same commands
+  -- nothing is reported, the ports stay, and the core has the same commands
   pub engine_stays : (old new : EngineView) → new.machines ≡ old.machines → new.connections ≡ old.connections → new.told ≡ old.told
       → IsPrefix old.core.seen new.core.seen → new.core.queue ≡ old.core.queue → new.core.durable ≡ old.core.durable
       → new.core.number ≡ old.core.number → new.core.flight ≤ length new.core.queue → IsEngine start old → IsEngine start new
@@ -214,7 +214,7 @@ module _ (start : Start) where
       begins : IsPrefix before new.seen
       begins = prefix_trans before (before ++ commands) new.seen (prefix_append before commands) shown
 
-      -- what stands before the batch is what was durable
+      -- the commands before the batch are the durable ones
       front_is : before ≡ stands.done
       front_is =
           sym (take_all durable before (omega (arith, follows)))
@@ -317,7 +317,7 @@ module _ (start : Start) where
           subst (λ (es : List Event). Rises old.core new.core (stamped 0 es)) (sym is.told_is)
           (stepped_rises 0 old.core new.core is.called is.status becomes.0 becomes.1)
 
-  -- what is told of its ports are their runs
+  -- the events of its ports are their runs
   pub engine_runs : (engine : EngineView) → (is : IsEngine start engine)
       → AreRunsOfPorts itself any_steps first start.state is.counted is.begun (trace_of engine) engine.connections
   engine_runs engine is =

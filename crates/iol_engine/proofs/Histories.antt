@@ -85,7 +85,7 @@ module _ {L : Type 0} (number : L → ℕ) (steps : L → LinkCall → LinkAnswe
   acting_led port before after link last old new called status led is =
       (_, acting_history port before after link last old new called status led.0 led.1 is)
 
-  -- and the one behind it
+  -- and the machine after the step
   pub step_led : (port : ℕ) (before after : PortValue) (link last : L) (old new : CoreView) (called status : List Event)
       (history : List Happening) → HasLed port history before
       → (is : PortStep number steps before after link last old new called status)

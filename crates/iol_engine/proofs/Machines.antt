@@ -1,4 +1,4 @@
--- The machines of ports stand at their places.
+-- The machines of ports are at their places.
 use Rattle.std.proofs.Common.{◌≡◌, ◌≢◌, refl, inl, inr, ◌+◌, ℕ, zero, suc, nat_eq, Bool, true, false, Option, List, [], ◌∷◌, ◌++◌, length}
 use Rattle.std.proofs.Common.{Some, None, slice_get, slice_set, ap, sym, ◌∙◌, subst, arith, rules}
 use Rattle.std.proofs.lemmas.Bool.{eqb-true}

@@ -1,4 +1,4 @@
--- A step of a port tells of no other port, and a client's command of none.
+-- A step of a port has no events of another port, and a client's command has none of any port.
 use Rattle.std.proofs.Common.{◌≡◌, refl, inl, inr, ℕ, nat_eq, Bool, false, if◌then◌else◌, List, [], ◌∷◌, ◌++◌, Option, Some, None, Result}
 use Rattle.std.proofs.Common.{Ok, Err, ap, sym, ◌∙◌, subst}
 use Rattle.iol_types.specs.Command.{command_of}
@@ -28,7 +28,7 @@ use Rattle.iol_engine.proofs.Quiet.{stamped_both}
 use Rattle.iol_engine.specs.PortSteps.{Hears, HearsCore, IsStatusTold, PortStep, awake, reply_told, attended_told, filed_told, store_in}
 use Rattle.iol_engine.specs.Submitted.{submit_told}
 
--- what is told of another port is not this one's
+-- an event of another port is not this port's own
 not_own : {A : Type 0} (q port : ℕ) (it : A) → nat_eq port q ≡ false → at_port q port it ≡ []
 not_own q port it apart = ap (λ (same : Bool). if same then it ∷ [] else []) apart
 

@@ -1,4 +1,4 @@
--- What a step of a port makes of the core, and what it tells.
+-- What a step of a port makes of the core, and what it reports.
 use Rattle.std.proofs.Common.{◌≡◌, inl, inr, ℕ, List, [], ◌∷◌, sym, subst}
 use Rattle.iol_core.specs.Core.{CoreView}
 use Rattle.iol_link.specs.Link.{LinkCall, LinkAnswer}
@@ -55,7 +55,7 @@ module _ {L : Type 0} (number : L → ℕ) (steps : L → LinkCall → LinkAnswe
   hears_change port (AnswerTo request) (input.Reply r) link last old new told is = absurd is.0.2
   hears_change port (ReplyTo call) heard link last old new told is = core_hears port call heard old new told is.0
 
-  -- what is called makes a change that it tells, and the status tells of none
+  -- the call of a step makes a change and reports it, and the status reports none
   pub step_becomes : (before after : PortValue) (link last : L) (old new : CoreView) (called status : List Event)
       → PortStep number steps before after link last old new called status → Becomes ⊥ old new called × AreQuiet status
   step_becomes before after link last old new called status is = (

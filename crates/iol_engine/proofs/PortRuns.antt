@@ -1,4 +1,4 @@
--- What the steps of ports tell of each port is a run of its machine.
+-- The events of each port, from the steps of ports, are a run of its machine.
 use Rattle.std.proofs.Common.{◌≡◌, ◌<◌, ◌⊎◌, inl, inr, refl, ◌+◌, ◌-◌, ℕ, zero, suc, nat_eq, if◌then◌else◌, Bool, true, false, List}
 use Rattle.std.proofs.Common.{[], ◌++◌}
 use Rattle.std.proofs.Common.{length, Some, ◌≤◌, slice_get, slice_set, get_or, ap, sym, ◌∙◌, subst, arith, append-nil, append_assoc}
@@ -69,7 +69,7 @@ module _ {L : Type 0} (number : L → ℕ) (steps : L → LinkCall → LinkAnswe
   run_led port begun made machine link events is =
       (history_of number steps first start port begun made machine link events is, history_led port begun made machine link events is)
 
-  -- its status is the one that was told last
+  -- its status is the one that was reported last
   pub run_status : (port : ℕ) (begun : L) (made : ℕ) (machine : PortValue) (link : L) (events : List Stamp)
       → IsRun port begun made machine link events
       → status_shown port events ≡ status_told (status_of machine.stage)
@@ -120,14 +120,14 @@ module _ {L : Type 0} (number : L → ℕ) (steps : L → LinkCall → LinkAnswe
     others = own-append port is.later more ∙ (ap (λ (es : List Event). es ++ own port more) is.others ∙ none);
   }
 
-  -- the run of a port that has a link, and what holds of all ports
+  -- the run of a port that has a link, and the runs of all ports
   abbrev RunAt : (ℕ → ℕ) → List L → PortsView L → List Stamp → ℕ → Type 0
   RunAt counted links ports events place = engine.RunAt number steps first start counted links ports events place
 
   abbrev HaveRuns : (ℕ → ℕ) → List L → PortsView L → List Stamp → Type 0
   HaveRuns counted links ports events = engine.HaveRuns number steps first start counted links ports events
 
-  -- no port makes a step, and what is told is no port's own
+  -- no port makes a step, and no event is a port's own
   pub ports_stay : (counted : ℕ → ℕ) (links : List L) (ports last : PortsView L) (events more : List Stamp) → last ≡ ports
       → ((port : ℕ) → own port more ≡ []) → HaveRuns counted links ports events → HaveRuns counted links last (events ++ more)
   ports_stay counted links ports last events more same none is =
@@ -189,7 +189,7 @@ module _ {L : Type 0} (number : L → ℕ) (steps : L → LinkCall → LinkAnswe
     one_more : stepped port counted (place + 1) ≡ suc (counted (place + 1))
     one_more = moved port counted (place + 1) (omega (arith, is.some))
 
-    -- and behind it
+    -- and after it
     after_run : (begun : L) → slice_get links place ≡ Some begun
         → IsRun (place + 1) begun (stepped port counted (place + 1)) is.after linked_to (events ++ stamped t told)
     after_run begun at =

@@ -1,4 +1,4 @@
--- Events that accept and acknowledge nothing, and tell of no failure.
+-- Events that accept and acknowledge nothing, and report no failure.
 use Rattle.std.proofs.Common.{◌≡◌, refl, inl, inr, ℕ, List, [], ◌∷◌, ◌++◌, ap, sym, ◌∙◌, append_assoc}
 use Rattle.iol_core.specs.Events.{Event, Accepted, Refused, Page, Exchange, Lost, Attended, Changed, Acknowledged, DiskFailed, Stamp}
 use Rattle.iol_core.specs.Events.{stamped}

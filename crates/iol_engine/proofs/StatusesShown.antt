@@ -1,4 +1,4 @@
--- The status of a machine is the one that was told last.
+-- The status of a machine is the one that was reported last.
 use Rattle.std.proofs.Common.{◌≡◌, refl, inl, inr, ℕ, nat_eq, Bool, true, false, if◌then◌else◌, List, [], ◌∷◌, ◌++◌, Option, Some, None}
 use Rattle.std.proofs.Common.{Result, Ok, Err, ap, sym, ◌∙◌}
 use Rattle.std.proofs.lemmas.Bool.{eq-eqb}
@@ -30,7 +30,7 @@ pub status-append : (was : Status) (events more : List Event) → status_after w
 status-append was events more = fold-append (λ (s : Status) (e : Event). status_by s e) was events more
 
 module _ (q t : ℕ) where
-  -- an event that tells no status
+  -- an event that reports no status
   kept : (same : Bool) (was : Status) (e : Event) → status_by was e ≡ was → status_after was (if same then e ∷ [] else []) ≡ was
   kept true was e keeps = keeps
   kept false was e keeps = refl
@@ -98,7 +98,7 @@ module _ (q t : ℕ) where
     hears_kept was port (AnswerTo request) (input.Reply r) link last old new told is = absurd is.0.2
     hears_kept was port (ReplyTo call) heard link last old new told is = core_kept was port call heard old new told is.0
 
-  -- a status that is told
+  -- a status that is reported
   told_status : (was : Status) (port : ℕ) (status : Status) → nat_eq port q ≡ true
       → status_after was (own q (stamped t (Changed port status ∷ []))) ≡ status
   told_status was port status at = ap (λ (same : Bool). status_after was ((if same then Changed port status ∷ [] else []) ++ [])) at
@@ -112,7 +112,7 @@ module _ (q t : ℕ) where
       ap (λ (es : List Event). status_after was (own q (stamped t es))) is.0
       ∙ told_status was new.port (status_told (status_of new.stage)) (eq-eqb new.port q at)
 
-  -- what a step tells shows the status behind it
+  -- the events of a step show the status after it
   pub step_status : {L : Type 0} (number : L → ℕ) (steps : L → LinkCall → LinkAnswer → L → Type 0) (was : Status) (before after : PortValue)
       (link last : L)
       (old new : CoreView) (called status : List Event) → was ≡ status_told (status_of before.stage) → after.port ≡ q

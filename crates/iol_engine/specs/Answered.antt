@@ -1,4 +1,4 @@
--- Answers to what an engine wanted of a link.
+-- Answers of a link to what an engine wanted of it.
 use Rattle.std.specs.Prelude.{◌≡◌, ℕ, Bool, true, false, List}
 use Rattle.iol_port.specs.declared.action.Want.{Want}
 use Rattle.iol_port.specs.declared.action.Want.TheVariants as want
@@ -11,7 +11,7 @@ is_silent answered.Nothing = true
 is_silent answered.Gone = true
 is_silent _ = false
 
--- the answer without its octets: a device that is asked on the last connection is gone (own)
+-- the answer without its octets: a device that is asked on the last connection is lost (own)
 abbrev pub without_octets : Answered → Answered
 without_octets answered.Nothing = answered.Nothing
 without_octets _ = answered.Gone

@@ -1,4 +1,4 @@
--- An engine: a core and the machines of its ports, without disk and links. What it has reported is what these did.
+-- An engine: a core and the machines of its ports, without disk and links. It reports what these did.
 use Rattle.std.specs.Prelude.{◌≡◌, ◌<◌, ◌≤◌, ◌+◌, ◌-◌, ◌⊎◌, ℕ, List, [], ◌++◌, length, take, Some, slice_get, slice_set}
 use Rattle.iol_types.specs.Command.{CommandValue}
 use Rattle.iol_types.specs.State.{State, after}
@@ -14,7 +14,7 @@ use Rattle.iol_engine.specs.PortRuns.{IsPortRun}
 use Rattle.iol_engine.specs.PortSteps.{PortStep}
 use Rattle.iol_engine.specs.Ports.{ArePorts, PortsView}
 
--- what was accepted is what is durable and what waits, and what was acknowledged is what is durable (own)
+-- the accepted commands are those that are durable and those that wait, and the acknowledged ones are those that are durable (own)
 pub record Stands (first : ℕ) (start : State) (events : List Stamp) (core : CoreView) : Type 0 where
   pub done : List CommandValue
   pub accepted_is : accepted events ≡ done ++ core.queue
@@ -24,14 +24,14 @@ pub record Stands (first : ℕ) (start : State) (events : List Stamp) (core : Co
   pub flight : core.flight ≤ length core.queue
 
 module _ {L : Type 0} (number : L → ℕ) (steps : L → LinkCall → LinkAnswer → L → Type 0) where
-  -- the events of a port that has a link are a run of its machine, of so many steps as are counted of the port (own)
+  -- the events of a port that has a link are a run of its machine, of the number of steps that is counted for the port (own)
   abbrev pub RunAt : ℕ → State → (ℕ → ℕ) → List L → PortsView L → List Stamp → ℕ → Type 0
   RunAt first start counted links ports events place =
       (begun link : L) (machine : PortValue) → slice_get links place ≡ Some begun → slice_get ports.links place ≡ Some link
       → slice_get ports.machines place ≡ Some machine
       → IsPortRun number steps first start (place + 1) begun (counted (place + 1)) machine link events
 
-  -- so are the events of each port, and no other number has events (own)
+  -- the events of each port are a run of its machine, and no other number has events (own)
   pub record HaveRuns (first : ℕ) (start : State) (counted : ℕ → ℕ) (links : List L) (ports : PortsView L) (events : List Stamp) : Type 0
     where
       pub count : length ports.links ≡ length links
@@ -66,16 +66,16 @@ itself connection = connection
 abbrev pub any_steps : ℕ → LinkCall → LinkAnswer → ℕ → Type 0
 any_steps before call answer after = Unit {0}
 
--- its ports, and its events as a trace, whose clock is 0, as an engine has no disk (own)
+-- an engine's ports, and its events as a trace, whose clock is 0, as an engine has no disk (own)
 abbrev pub ports_of : EngineView → PortsView ℕ
 ports_of engine = record { machines = engine.machines; links = engine.connections }
 
 abbrev pub trace_of : EngineView → List Stamp
 trace_of engine = stamped 0 engine.told
 
--- what holds of an engine at all times, if its front has this start. Each machine is at its port's place. The core is as the events
--- say: the durable commands that its pass has seen are the first that were accepted, and acknowledged numbers do not fall. The events
--- of each port are a run of its machine, from the connection that the port began with (own)
+-- the invariant of an engine whose front has this start. Each machine is at its port's place. The core is as the events say: the
+-- durable commands that its pass has seen are the first that were accepted, and acknowledged numbers do not fall. The events of each
+-- port are a run of its machine, from the connection that the port began with (own)
 pub record IsEngine (start : Start) (engine : EngineView) : Type 0 where
   pub begun : List ℕ
   pub counted : ℕ → ℕ

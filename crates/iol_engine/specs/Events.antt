@@ -20,7 +20,7 @@ event_of (Status port status) = trace.Changed port (status_told status)
 event_of (Acknowledged number) = trace.Acknowledged number
 event_of DiskFailed = trace.DiskFailed
 
--- what is told, if anything is (own)
+-- the list with an event as data, if there is an event (own)
 abbrev pub told_of : Option Event → List trace.Event
 told_of None = []
 told_of (Some event) = event_of event ∷ []

@@ -1,4 +1,4 @@
--- Steps of an engine with what a link answered while the engine was not looking.
+-- Steps of an engine with what a link answered to a call that was made outside the engine.
 use Rattle.std.specs.Prelude.{◌≡◌, ◌-◌, ◌++◌, ℕ, Bool, true, List, Option, None, Some, slice_get, slice_set}
 use Rattle.iol_port.specs.Heard.{is_settled}
 use Rattle.iol_port.specs.Stage.{PortValue}
@@ -13,7 +13,7 @@ use Rattle.iol_engine.specs.Engine.{EngineView, MakesStep}
 use Rattle.iol_engine.specs.Handed.{Hands, handed_number}
 use Rattle.iol_engine.specs.declared.handed.Handed.{Handed}
 
--- what an engine wants of a port's link; nothing of a port that is not there (own)
+-- what an engine wants of a port's link; nothing if the port is not there (own)
 abbrev pub wanted_of : Option PortValue → Want
 wanted_of None = want.Nothing
 wanted_of (Some machine) = link_wanted machine.stage
@@ -21,7 +21,7 @@ wanted_of (Some machine) = link_wanted machine.stage
 abbrev pub want_at : EngineView → ℕ → Want
 want_at engine port = wanted_of (slice_get engine.machines (port - 1))
 
--- a port makes its step with the answer that was handed over, on the connection that the engine knows, and reports these events (own)
+-- a port makes its step with the answer that was passed in, on the connection that the engine knows, and reports these events (own)
 pub record StepsHanded (port : ℕ) (handed : Handed) (old new : EngineView) (told : List Event) : Type 0 where
   pub linked : Handed
   pub on : slice_get old.connections (port - 1) ≡ Some handed.connection

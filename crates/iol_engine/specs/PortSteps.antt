@@ -24,7 +24,7 @@ use Rattle.iol_engine.specs.declared.said.Said.{Said}
 use Rattle.iol_core.specs.Events as trace
 use Rattle.iol_core.specs.Events.{Event}
 
--- a machine is ready between its steps: no call is out, and what holds of its stage holds (own)
+-- a machine is ready between its steps: no call awaits its reply, and the invariant of its stage holds (own)
 pub record IsReady (stage : Stage) : Type 0 where
   pub at_hand : is_at_hand stage ≡ true
   pub holds : IsStage stage
@@ -34,22 +34,22 @@ abbrev pub store_in : Call → Option CommandValue
 store_in (FinishUpload grant set) = Some (store_of grant set)
 store_in _ = None
 
--- what is told of a command that was accepted (own)
+-- the event of a command that was accepted (own)
 abbrev pub accepted_told : ℕ → Option CommandValue → List Event
 accepted_told number None = []
 accepted_told number (Some command) = trace.Accepted number command ∷ []
 
--- what is told of a set that was filed: its number, where it was accepted (own)
+-- the event of a set that was filed: its number, if it was accepted (own)
 abbrev pub filed_told : Option CommandValue → Result ℕ FinishFault → List Event
 filed_told command (Ok number) = accepted_told number command
 filed_told command (Err fault) = []
 
--- what is told of the work of a port that is there (own)
+-- the event of a port's work, if the port is there (own)
 abbrev pub attended_told : ℕ → Option Work → List Event
 attended_told port None = []
 attended_told port (Some work) = trace.Attended port (work_told work) ∷ []
 
--- what is told of a call of the core: the work of the port, and a Store that was accepted (own)
+-- the event of a call of the core: the work of the port, or a Store that was accepted (own)
 abbrev pub reply_told : ℕ → Option CommandValue → Reply → List Event
 reply_told port command (reply.Attended work) = attended_told port work
 reply_told port command (reply.FinishedUpload finished) = filed_told command finished
@@ -80,7 +80,7 @@ module _ {L : Type 0} (number : L → ℕ) (steps : L → LinkCall → LinkAnswe
       × (told ≡ trace.Lost port (number old) (Some request) ∷ [])
   HearsAnswer port request _ old new told = ⊥
 
-  -- what a port wants is asked of its link or of the core, once, and what comes of it is told (own)
+  -- what a port wants is asked of its link or of the core, once, and the outcome is reported (own)
   abbrev pub Hears : ℕ → Wanted → Input → L → L → CoreView → CoreView → List Event → Type 0
   Hears port Nothing heard old new before after told = ⊥
   Hears port ThePage heard old new before after told = HearsPage port heard old new told × (after ≡ before)
@@ -88,14 +88,14 @@ module _ {L : Type 0} (number : L → ℕ) (steps : L → LinkCall → LinkAnswe
       ((octets : List ℕ) × IsShortestRequest octets request × HearsAnswer port octets heard old new told) × (after ≡ before)
   Hears port (ReplyTo call) heard old new before after told = HearsCore port call heard before after told × (new ≡ old)
 
-  -- a port's machine has what it wants done, and hears what comes of it (own)
+  -- what a port's machine wants is done, and the machine is fed the outcome (own)
   pub record Acts (old new : PortValue) (link last : L) (before after : CoreView) (told : List Event) : Type 0 where
     pub wants : Wanted
     pub heard : Input
     pub did : Happens old (Did wants heard) new
     pub hears : Hears old.port wants heard link last before after told
 
-  -- the machine of a port hears the page of its device, or that it is lost, and that is told (own)
+  -- the machine of a port is fed the page of its device, or that the device was lost, and that is reported (own)
   pub record HasPage (old new : PortValue) (link last : L) (told : Event) : Type 0 where
     pub heard : Input
     pub fed : IsFed old heard new
@@ -103,7 +103,7 @@ module _ {L : Type 0} (number : L → ℕ) (steps : L → LinkCall → LinkAnswe
     pub comes : ComesOf ThePage heard
     pub hears : HearsPage old.port heard link last (told ∷ [])
 
-  -- it hears the answer to a request, or that the device is lost (own)
+  -- the machine of a port is fed the answer to a request, or that the device was lost, and that is reported (own)
   pub record HasAnswer (request : Request) (old new : PortValue) (link last : L) (told : Event) : Type 0 where
     pub heard : Input
     pub octets : List ℕ
@@ -113,7 +113,7 @@ module _ {L : Type 0} (number : L → ℕ) (steps : L → LinkCall → LinkAnswe
     pub comes : ComesOf (AnswerTo request) heard
     pub hears : HearsAnswer old.port octets heard link last (told ∷ [])
 
--- the machine of a port hears what the core replies, and that is told (own)
+-- the machine of a port is fed the core's reply, and that is reported (own)
 pub record HasReply (call : Call) (old new : PortValue) (before after : CoreView) (told : List Event) : Type 0 where
   pub heard : Reply
   pub fed : IsFed old (input.Reply heard) new
@@ -122,7 +122,7 @@ pub record HasReply (call : Call) (old new : PortValue) (before after : CoreView
   pub replies : Replies call before after heard
   pub told_is : told ≡ reply_told old.port (store_in call) heard
 
--- what is said of the Store that a call files, if it files one (own)
+-- the value of the Store that a call files, if it files one (own)
 abbrev pub command_said : Option Said → Option CommandValue
 command_said None = None
 command_said (Some said) = Some said.command
@@ -132,26 +132,26 @@ abbrev pub noted_by : Option ℕ → PortValue → PortValue
 noted_by None old = old
 noted_by (Some code) old = noted old code
 
--- a machine that is settled is woken (own)
+-- a machine after it was woken, if it was settled (own)
 abbrev pub awake : PortValue → PortValue
 awake old = at_stage old (woken old.stage)
 
--- the status of a port is told where it has changed (own)
+-- the status of a port is reported if it has changed (own)
 abbrev pub IsStatusTold : PortValue → PortValue → List Event → Type 0
 IsStatusTold old new told =
     ((told ≡ []) × (status_of new.stage ≡ status_of old.stage))
     ⊎ ((told ≡ trace.Changed new.port (status_told (status_of new.stage)) ∷ []) × (status_of new.stage ≡ status_of old.stage → ⊥))
 
 module _ {L : Type 0} (number : L → ℕ) (steps : L → LinkCall → LinkAnswer → L → Type 0) where
-  -- the link is asked for an event of the device, and one that is there is noted (own)
+  -- the link is asked for an event of the device, which is noted if there is one (own)
   pub record HasEvent (old new : PortValue) (link last : L) : Type 0 where
     pub event : Option ℕ
     pub took : steps link TakeEvent (event_answer event) last
     pub same : number last ≡ number link
     pub new_is : new ≡ noted_by event old
 
-  -- a step of a port: its device's event is noted, a settled machine is woken, what it wants is done, and what came of that
-  -- is told, and then its status, where that has changed (own)
+  -- a step of a port: its device's event is noted, a settled machine is woken, what it wants is done, and the outcome is
+  -- reported, and then the status, if that has changed (own)
   pub record PortStep (old new : PortValue) (link last : L) (before after : CoreView) (called status : List Event) : Type 0 where
     pub noted_value : PortValue
     pub mid : L

@@ -1,4 +1,4 @@
--- Which ports wait until what they stored is durable.
+-- Which ports wait until the set that they filed is durable.
 use Rattle.std.specs.Prelude.{◌-◌, ℕ, Bool, true, false, Option, None, Some, slice_get}
 use Rattle.iol_core.specs.Core.{CoreView}
 use Rattle.iol_core.specs.Submit.{ticket_state}
@@ -18,7 +18,7 @@ abbrev pub has_waiting : CoreView → Option ℕ → Bool
 has_waiting core None = false
 has_waiting core (Some number) = is_waiting (ticket_state core number)
 
--- a port waits for the disk, if it is there: it has filed its set, and the core does not yet know what became of it (own)
+-- a port is there and waits for the disk: it has filed its set, and the ticket of that command is `Waiting` (own)
 abbrev pub waits_in : CoreView → Option PortValue → Bool
 waits_in core None = false
 waits_in core (Some machine) = has_waiting core (awaited machine.stage)

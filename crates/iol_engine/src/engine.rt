@@ -40,14 +40,14 @@ use std::alloc::{AllocError, Global};
 use std::marker::Model;
 use std::mem::ManuallyDrop;
 
-/// The core of a master and the machines of its ports, port 1 first. What it has reported is at each moment a run of each machine, which
-/// its type's invariant says, so also each time that a lock around it is taken. A contract sees the record `EngineView` of
+/// The core of a master and the machines of its ports, port 1 first. Its type's invariant says that at each moment its reports are a
+/// run of each machine, so also each time that a lock around it is taken. A contract sees the record `EngineView` of
 /// `specs/Engine.antt`.
 #[derive(Drop)]
 pub struct Engine<F: Name> {
     core: Core<F>,
     // Machines are not dropped. A machine may hold a permit, which only a call of its core can spend. An engine that is dropped drops
-    // the core too, so no permit is out any more, and the machines' memory is freed when the process ends.
+    // the core too, so no permit remains, and the machines' memory is freed when the process ends.
     machines: ManuallyDrop<Vec<PortMachine>>,
     // The number of the connection of each port's link.
     connections: Vec<u64>,
@@ -89,7 +89,7 @@ impl<F: Name> Engine<F> {
         requires state { state ≡ F.front.start.state }
         requires pass { pass ≡ [] }
         requires ports { length links.now ≡ length state }
-        // Nothing waits and no permit is out.
+        // No command waits, and no permit is given.
         ensures core { IfOk result (λ engine. engine.core ≡ record {
           durable = state;
           number = F.front.start.number;
@@ -135,7 +135,7 @@ impl<F: Name> Engine<F> {
         end_machines(ManuallyDrop::into_inner(machines), core).end()
     }
 
-    /// Returns the number of the last command that waits, or of the last durable one.
+    /// Returns the number of the last waiting command, or of the last durable one if none waits.
     pub fn live_number(&self) -> u64
         ensures number { result ≡ live_number self.now.core }
         ensures core { IsCore F.front.start self.now.core }
@@ -188,7 +188,7 @@ impl<F: Name> Engine<F> {
         self.core.view(port, pass)
     }
 
-    /// The pass has then seen each durable command, as after `Core::meet`. Returns the number of the last one.
+    /// Shows each durable command to the pass, as `Core::meet` does, and returns the number of the last one.
     pub fn meet(&mut self, pass: &mut Pass<F>) -> u64
         ensures number { result ≡ self.new.core.number }
         ensures others { self.new ≡ record self.old { core = record self.old.core { seen = self.new.core.seen } } }
@@ -243,14 +243,14 @@ impl<F: Name> Engine<F> {
         }
     }
 
-    /// Takes no more commands, as after `Core::stop`. Nothing is reported.
+    /// Stops taking commands, as `Core::stop` does. Nothing is reported.
     pub fn stop(&mut self, cause: StopCause)
         ensures { self.new ≡ record self.old { core = record self.old.core { stopped = Some (stopped_by self.old.core.stopped cause) } } }
     {
         self.core.stop(cause);
     }
 
-    /// Takes no more commands since a disk call failed, and reports that failure.
+    /// Stops taking commands after a failed disk call, and reports that failure.
     pub fn fail(&mut self)
         ensures core { self.new.core ≡ record self.old.core { stopped = Some (stopped_by self.old.core.stopped cause.DiskFailed) } }
         ensures told { self.new.told ≡ self.old.told ++ trace.DiskFailed ∷ [] }
@@ -284,7 +284,7 @@ impl<F: Name> Engine<F> {
 }
 
 impl<F: Name> Engine<F> {
-    /// Returns what the engine wants of a port's link; nothing of a port that is not there.
+    /// Returns what the engine wants of a port's link, or `Want::Nothing` if the port is not there.
     pub fn want(&self, port: PortId) -> Want
         ensures { result ≡ want_at self.now port }
     {
@@ -311,7 +311,7 @@ impl<F: Name> Engine<F> {
         }
     }
 
-    /// Returns the status of a port that is there.
+    /// Returns the status of a port, if the port is there.
     pub fn status(&self, port: PortId) -> Option<PortStatus>
         ensures { result ≡ status_in (slice_get self.now.machines (port - 1)) }
     {
@@ -321,8 +321,8 @@ impl<F: Name> Engine<F> {
         }
     }
 
-    /// Whether a port waits for the disk: it has filed its set, and what became of it is not known yet. Until it is, a step of the port
-    /// changes nothing.
+    /// Whether a port waits for the disk: it has filed its set, and the ticket of that command is `Waiting`. Until that changes, a step of
+    /// the port changes nothing.
     pub fn waits(&self, port: PortId) -> bool
         ensures { result ≡ waits_at self.now port }
     {
@@ -365,7 +365,7 @@ impl<F: Name> Engine<F> {
     }
 }
 
-// The number of the connection of each link.
+// Returns the number of the connection of each link.
 fn connections_of<L: DeviceLink>(alloc: Global, links: &[L]) -> Result<Vec<u64>, AllocError>
     ensures { IfOk result (λ connections. connections.items ≡ map L.number links.now) }
 {

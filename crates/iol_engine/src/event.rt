@@ -14,7 +14,7 @@ use iol_port::PortStatus;
 use iol_types::{Change, PortId};
 use std::alloc::{AllocError, Global};
 
-/// The octets that a port has sent to its device, and those that the device has answered.
+/// The octets that a port has sent to its device, and those of the device's answer.
 #[derive(Drop)]
 pub struct Exchanged {
     pub request: ArrayVec<u8, ISDU_OCTETS>,
@@ -34,7 +34,7 @@ impl Exchanged {
         Ok(Box::new(alloc, octets)?)
     }
 
-    // These octets in a room that was made before.
+    // Moves these octets into a buffer that was allocated before.
     pub(crate) fn put(self, mut room: Box<Exchanged>) -> Box<Exchanged>
         ensures { result.value ≡ self }
     {
@@ -43,7 +43,7 @@ impl Exchanged {
     }
 }
 
-/// What happens in a master. It is small, since a run keeps each of its events: long octets lie in a box.
+/// An event in a master. It is small, since a run keeps all of its events: the octets of an exchange are in a box.
 #[derive(Drop)]
 pub enum Event {
     /// A command was accepted under this number.
@@ -59,19 +59,19 @@ pub enum Event {
         connection: u64,
         octets: [u8; PAGE_OCTETS],
     },
-    /// A port has sent these octets, and its device has answered those.
+    /// A port has exchanged these octets with its device, on this connection of its link.
     Exchange {
         port: PortId,
         connection: u64,
         octets: Box<Exchanged>,
     },
-    /// A port has lost its device, at the read of the page or at the request of these octets, which has no answer.
+    /// A port has lost its device while it read the page, or after it sent the request in these octets, which have no answer.
     Lost {
         port: PortId,
         connection: u64,
         octets: Option<Box<Exchanged>>,
     },
-    /// A port was told its work.
+    /// The core has given a port its work.
     Attended {
         port: PortId,
         work: ToldWork,
@@ -90,7 +90,7 @@ pub enum Event {
 }
 
 impl Event {
-    /// What is told of the answer to a client's change: it was accepted, or refused.
+    /// Returns the event that reports the answer to a client's change: it was accepted, or refused.
     pub fn of_answer(change: &Change, answer: &Result<Ticket, SubmitFault>) -> Event
         ensures { event_of result ∷ [] ≡ submit_told (command_of change.now) answer.now }
     {

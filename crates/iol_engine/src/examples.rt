@@ -1,4 +1,4 @@
-//! Facts of an engine, with values, for its definitions to be checked against: each is proved by computing.
+//! Examples of an engine with values, which check its definitions. Each is proved by computing.
 
 ghost use Rattle.std.specs.Prelude.{◌≡◌, [], ◌∷◌, true, false, Some, None};
 ghost use Rattle.iol_core.specs.Examples.{blank_core, configure_one};
@@ -20,8 +20,8 @@ pub fn a_port_that_waits()
     ensures not_there { waits_in (blank_core (configure_one ∷ [])) None ≡ false }
 {}
 
-/// A device that was lost fits where its page was wanted, and not where nothing was. Where a page was wanted, no answer at all does not
-/// fit.
+/// The loss of a device fits if its page was wanted, and not if nothing was. No answer fits if nothing was wanted, and not if a page
+/// was.
 pub fn an_answer_that_fits()
     ensures lost { FitsWant want.Page answered.Gone }
     ensures unasked { FitsWant want.Nothing answered.Gone → ⊥ }

@@ -1,4 +1,4 @@
-//! What a link answered while an engine was not looking, as a link of its own.
+//! What a link answered to a call that was made outside the engine, as a link of its own.
 
 ghost use Rattle.std.specs.Prelude.{◌≡◌, ◌+◌, ◌↔◌, min, true, IsTrue, None};
 ghost use Rattle.iol_link.specs.Link.{last_connection};
@@ -32,7 +32,7 @@ pub struct Handed {
 }
 
 impl Handed {
-    /// Makes a link that answers so on this connection. On the last connection a device answers nothing any more.
+    /// Makes a link that gives this answer on this connection. On the last connection a device answers nothing.
     pub fn new(connection: u64, event: Option<u16>, answer: Answered) -> Handed
         ensures connection { result.connection ≡ connection }
         ensures event { (connection ≡ last_connection → ⊥) → result.event ≡ event }

@@ -1,17 +1,17 @@
 //! The engine of a master: what is decided, without disk, links and threads.
 //!
-//! An [`Engine`] is the core of a master with the machines of all its ports. It makes no call of a disk or of a link: whoever drives it
-//! asks what a port wants, makes that call, and hands in the answer ([`Handed`]); takes the next batch, writes it, and hands back that
-//! it is durable. `iol_run` drives it on one thread, and `iol_master` drives it under a lock.
+//! An [`Engine`] is the core of a master with the machines of all its ports. It has no disk and no links. A caller passes a port's link
+//! to a step, or asks what the port wants, makes that call itself and passes the answer ([`Handed`]). The caller also takes the next
+//! batch, writes it, and returns it once it is durable. `iol_run` drives an engine on one thread, and `iol_master` under a lock.
 //!
-//! What the engine has reported is at each moment a run of each port's machine, and what it reported as acknowledged is durable; its
-//! type's invariant says so (`specs/Engine.antt`). `iol_headline` makes the laws of a trace of it.
+//! At each moment the engine's reports are a run of each port's machine, and what it reported as acknowledged is durable. Its type's
+//! invariant says so (`specs/Engine.antt`), and `iol_headline` derives the laws of a trace from it.
 //!
 //! Modules in reading order:
 //! - `said`, `told_work` and `event` are what is reported, and `trail` is the list of it.
 //! - `port_machines` are the machines of the ports, and `port_step` is a step of one.
-//! - `handed` is what a link answered while nobody held the engine.
-//! - `engine` is all of them as one value, and `examples` are facts with values.
+//! - `handed` is what a link answered to a call that was made outside the engine.
+//! - `engine` is all of them as one value, and `examples` check the definitions with values.
 #![tactic(auto)]
 
 mod engine;

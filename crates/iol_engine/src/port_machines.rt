@@ -11,7 +11,7 @@ use iol_port::PortMachine;
 use iol_types::{PORTS, PortId};
 use std::alloc::{AllocError, Global};
 
-// The machines of so many ports, all new.
+// Makes a new machine for each of `ports` ports.
 pub(crate) fn machines_of(alloc: Global, ports: u8) -> Result<Vec<PortMachine>, AllocError>
     requires most { ports ≤ PORTS }
     ensures { IfOk result (λ machines. machines.items ≡ new_machines ports) }
@@ -23,7 +23,7 @@ pub(crate) fn machines_of(alloc: Global, ports: u8) -> Result<Vec<PortMachine>, 
     Ok(machines)
 }
 
-// One more, for the port at a place.
+// Adds a new machine, for the port at this place.
 fn add_machine(alloc: Global, machines: &mut Vec<PortMachine>, place: u8)
     requires most { place < PORTS }
     requires room { vec_len machines.old < vec_capacity machines.old }
@@ -36,7 +36,7 @@ fn add_machine(alloc: Global, machines: &mut Vec<PortMachine>, place: u8)
     machines.push_reserved(PortMachine::new(alloc, port));
 }
 
-// Ends machines: each permit that is held is returned to the core.
+// Ends the machines, and returns each permit that they hold to the core.
 pub(crate) fn end_machines<F: Name>(machines: Vec<PortMachine>, mut core: Core<F>) -> Core<F>
     ensures { result.durable ≡ core.durable }
 {

@@ -1,4 +1,4 @@
-//! A step of a port: what its machine wants is asked of its link or of the core.
+//! A step of a port: the one call of its link or of the core that its machine wants.
 
 ghost use Rattle.std.specs.Prelude.{◌≡◌, true, false};
 ghost use Rattle.iol_port.specs.Calls.{MayBeMade, IsReplyTo, call_of};
@@ -24,8 +24,8 @@ use iol_port::{Action, CoreCall, Input, PortMachine, PortStatus, Reply};
 use iol_types::{Command, DataSet, PortId};
 use std::sync::Arc;
 
-/// What a step of a port tells: what came of what its machine wanted, and then its status, where that has changed. The room
-/// that was handed in comes back where it was not needed.
+/// What a step of a port reports: the outcome of the call that its machine wanted, and then the status, if that has changed.
+/// `room` is the buffer that was passed in, if the step did not use it.
 #[derive(Drop)]
 pub struct PortTold {
     pub called: Option<Event>,
@@ -54,9 +54,9 @@ impl PortTold {
     }
 }
 
-// One step of a port: an event of its device is noted, a settled machine is woken, and what the machine then wants is
-// done once, by a call of the link or of the core. What is exchanged is told in the room that is handed in, so that a step
-// takes no memory of its own.
+// Makes one step of a port: notes an event of its device, wakes a settled machine, and makes the one call of the link or of
+// the core that the machine then wants. An exchange is reported in the buffer that is passed in, so that the report allocates
+// no memory.
 pub(crate) fn step_port<L: DeviceLink, F: Name>(
     core: &mut Core<F>,
     machine: &mut PortMachine,
@@ -103,7 +103,7 @@ fn wake(machine: &mut PortMachine)
     }
 }
 
-// The status of a port, where it is another than before.
+// Returns an event with the status of a port, if that has changed.
 fn status_event(machine: &PortMachine, before: PortStatus) -> Option<Event>
     ensures { (old : PortValue) → status_of old.stage ≡ before → IsStatusTold old machine.now (told_of result) }
 {
@@ -115,7 +115,7 @@ fn status_event(machine: &PortMachine, before: PortStatus) -> Option<Event>
     Some(Event::Status { port, status })
 }
 
-// What the machine wants is done. The room comes back where it was not needed.
+// Makes the call that the machine wants. Returns the buffer too, if the call did not use it.
 fn act<L: DeviceLink, F: Name>(
     core: &mut Core<F>,
     machine: &mut PortMachine,
@@ -210,7 +210,7 @@ fn ask<F: Name>(core: &mut Core<F>, machine: &mut PortMachine, call: CoreCall) -
     event
 }
 
-// What is said of the Store that a call files, if it files one.
+// Returns the call, and the value of the Store that it files, if it files one.
 fn filed(call: CoreCall) -> (CoreCall, Option<Said>)
     ensures call { call_of result.0 ≡ call_of call }
     ensures said { command_said result.1 ≡ store_in (call_of call) }
@@ -224,7 +224,7 @@ fn filed(call: CoreCall) -> (CoreCall, Option<Said>)
     }
 }
 
-// What the Store of a set says, and the set.
+// Returns the set, and the value of its Store.
 fn stored(grant: UploadGrant, set: Arc<DataSet>) -> (Arc<DataSet>, Said)
     ensures set { result.0 ≡ set }
     ensures said { result.1.command ≡ store_of grant set.value }
@@ -241,7 +241,7 @@ fn stored(grant: UploadGrant, set: Arc<DataSet>) -> (Arc<DataSet>, Said)
     (set, said)
 }
 
-// What is told of a reply of the core.
+// Returns the event that reports a reply of the core, if there is one.
 fn reply_event(port: PortId, said: Option<Said>, reply: &Reply) -> Option<Event>
     ensures { told_of result ≡ reply_told port (command_said said) reply.now }
 {
@@ -261,7 +261,7 @@ fn reply_event(port: PortId, said: Option<Said>, reply: &Reply) -> Option<Event>
     }
 }
 
-// The same octets once more.
+// Copies the octets of an answer.
 fn copy_of(answer: &ArrayVec<u8, ISDU_OCTETS>) -> ArrayVec<u8, ISDU_OCTETS>
     ensures { result ≡ answer.now }
 {

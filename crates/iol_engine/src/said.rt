@@ -1,4 +1,4 @@
-//! What a command says, as a value without octets.
+//! The value of a command, as ghost state without octets.
 
 ghost use Rattle.std.specs.Prelude.{◌≡◌};
 ghost use Rattle.std.specs.Borrow.{ftrue};
@@ -7,7 +7,7 @@ ghost use Rattle.iol_types.specs.Command.{CommandValue};
 use iol_types::Command;
 use std::marker::Model;
 
-/// What a command says. It has no octets: contracts alone see it, so that a trace needs no memory for a set.
+/// The value of a command. It has no octets: only contracts see it, so that a trace needs no memory for a set.
 #[derive(Drop)]
 pub struct Said {
     pub ghost command: { CommandValue },
@@ -27,14 +27,14 @@ impl Said {
     ghost use Rattle.iol_types.specs.Command.{value_of};
     ghost use Rattle.iol_engine.specs.Said.{said_of};
 
-    // What a command says.
+    // Makes the `Said` of a command.
     pub(crate) fn of(command: &Command) -> Said
         ensures { result.command ≡ value_of command.now }
     {
         Said::read_off(&Source { command })
     }
 
-    // Proved by hand, as no code can set what contracts alone see.
+    // Makes a `Said`. The proof is by hand, since no code can set ghost state.
     fn read_off(_source: &Source<'_>) -> Said
         ensures { result ≡ said_of _source.now }
     {

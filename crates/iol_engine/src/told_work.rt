@@ -1,4 +1,4 @@
-//! What a port was told to work with.
+//! The work that the core has given a port, as an event reports it.
 
 ghost use Rattle.std.specs.Prelude.{◌≡◌};
 
@@ -7,7 +7,7 @@ use iol_core::Work;
 use iol_types::{Command, PortId, Validation};
 use std::marker::Model;
 
-/// What a port was told to work with. Of the configuration contracts alone see all, so that an event is small. A contract sees the
+/// The work that the core has given a port. Only contracts see the whole configuration, so that an event is small. A contract sees the
 /// record `Work` of `iol_core`.
 #[derive(Drop)]
 pub struct ToldWork {
@@ -31,7 +31,7 @@ impl Model for ToldWork {
 }
 
 impl ToldWork {
-    // What a port is told.
+    // Makes the report of a port's work.
     pub(crate) fn of(port: PortId, work: &Work) -> ToldWork
         ensures { result ≡ work.now }
     {

@@ -1,4 +1,4 @@
--- The disk calls of a write, one behind the other.
+-- The disk calls of a write, one after the other.
 use Rattle.std.proofs.Common.{◌≡◌, Bool, false, if◌then◌else◌, List, [], ◌∷◌, ◌++◌, Result, Ok, Err, refl, sym, ◌∙◌, ap, subst, arith}
 use Rattle.std.specs.Prelude.{nat_lt}
 use mathlib.Core.List.{append_assoc, append-nil}
@@ -33,7 +33,7 @@ none_yet calls left old now same_calls same = record {
   made = subst (Made [] old) (sym same) (unchanged old);
 }
 
--- behind one call more
+-- after one more call
 pub one_more : (calls left rest : List Call) (old now new : Disk) → IsAhead calls left old now → MakesFirst left rest now new (Ok tt)
     → IsAhead calls rest old new
 one_more calls left rest old now new so_far makes = record {
@@ -42,14 +42,14 @@ one_more calls left rest old now new so_far makes = record {
   made = made_append so_far.first (makes.call ∷ []) old now new so_far.made makes.makes;
 }
 
--- behind the last call
+-- after the last call
 pub all_made : (calls left : List Call) (old now new : Disk) → IsAhead calls left old now → MakesFirst left [] now new (Ok tt)
     → Made calls old new
 all_made calls left old now new so_far makes =
     let all = one_more calls left [] old now new so_far makes in
     subst (λ (cs : List Call). Made cs old new) (sym (all.order ∙ append-nil all.first)) all.made
 
--- where the next call failed
+-- if the next call failed
 pub one_failed : (calls left : List Call) (fault : DiskFault) (old now new : Disk) → IsAhead calls left old now
     → (others : List Call) × MakesFirst left others now new (Err fault)
     → FailedIn calls fault old new
@@ -58,7 +58,7 @@ one_failed calls left fault old now new so_far (others, fails) =
     (failed_later so_far.first (fails.call ∷ others) fault old now new so_far.made
     (failed_first (fails.call ∷ []) others fault now new fails.makes))
 
--- calls of which others would have come behind, had they not ended in a fault
+-- calls that ended in a fault before others could follow
 pub ended_early : {D : Type 0} (disk : D → Disk) (first second : List Call) (old : Disk) (fault : WriteFault D)
     → MakesCalls disk first old (Err fault) → MakesCalls disk (first ++ second) old (Err fault)
 ended_early disk first second old (Refused back cause) makes = record {
@@ -69,7 +69,7 @@ ended_early disk first second old (Refused back cause) makes = record {
 }
 ended_early disk first second old (Failed left fault) makes = failed_first first second fault old (disk left) makes
 
--- calls behind others that were made
+-- calls after others that were made
 pub then_makes : {D : Type 0} (disk : D → Disk) (first second : List Call) (old between : Disk)
     (answer : Result (JournalView D) (WriteFault D))
     → Made first old between → MakesCalls disk second between answer → MakesCalls disk (first ++ second) old answer
@@ -83,19 +83,19 @@ then_makes disk first second old between (Err (Refused back cause)) made makes =
 then_makes disk first second old between (Err (Failed left fault)) made makes =
     failed_later first second fault old between (disk left) made makes
 
--- where a checkpoint ends, and its calls, go by how the journal stands and how far the checkpoint is
+-- the end of a checkpoint, and its calls, depend on the standing of the journal and the progress of the checkpoint
 pub same_end : (s t : Standing) (b c : BegunView) → s ≡ t → b ≡ c → end_in s b ≡ end_in t c
 same_end s t b c same same_begun = rw (same, same_begun) refl
 
 pub same_calls : (s t : Standing) (b c : BegunView) → s ≡ t → b ≡ c → calls_of s b ≡ calls_of t c
 same_calls s t b c same same_begun = rw (same, same_begun) refl
 
--- where no slot is free, those of a checkpoint free one
+-- if no slot is free, the calls of a checkpoint free one
 pub none_free : {D : Type 0} (j : JournalView D) → nat_lt 0 (free_slots j.standing) ≡ false
     → calls_of j.standing (begun_in j) ≡ freeing_calls j
 none_free j full = sym (ap (λ (free : Bool). if free then [] else calls_of j.standing (begun_in j)) full)
 
--- where no slot is free, it stands with one behind a checkpoint
+-- if no slot is free, the journal has one after a checkpoint
 pub full_slot : {D : Type 0} (j : JournalView D) → nat_lt 0 (free_slots j.standing) ≡ false
     → end_in j.standing (begun_in j) ≡ with_slot j
 full_slot j full = sym (ap (λ (free : Bool). if free then j.standing else end_in j.standing (begun_in j)) full)

@@ -1,4 +1,4 @@
--- What the public clauses of the journal and of the disk say together.
+-- What the public clauses of the journal and of the disk imply together.
 use Rattle.std.proofs.Common.{◌≡◌, inl, ℕ, ◌+◌, List, [], ◌∷◌, ◌++◌, length, true, None}
 use Rattle.std.proofs.Common.{Result, Ok, Err, IfOk, refl, sym, ◌∙◌, ap, subst, arith}
 use Rattle.iol_types.specs.Command.{CommandValue}
@@ -21,7 +21,7 @@ use Rattle.iol_example.specs.Store.{Rests, RestsAt, IfRefused, LeavesRun}
 use Rattle.iol_example.specs.declared.store.WriteFault.{WriteFault}
 use Rattle.iol_example.specs.declared.store.WriteFault.TheVariants.{Refused, Failed}
 
--- a store at rest has the number and the state at which its journal stands
+-- a store at rest has the number and the state of its journal
 pub rests_at : {D : Type 0} (disk : D → Disk) (number : ℕ) (state : State) (j : JournalView D) → Rests disk j
     → j.standing.number ≡ number → j.standing.state ≡ state → RestsAt disk number state j
 rests_at disk number state j rests same_number same_state = record {
@@ -30,19 +30,19 @@ rests_at disk number state j rests same_number same_state = record {
   means = rw (← same_number, ← same_state) (rest_means_its_state (disk j.disk) j.standing j.idle rests.0);
 }
 
--- a journal at rest beside which no checkpoint is paused
+-- a journal at rest without a paused checkpoint
 pub none_paused : {D : Type 0} (disk : D → Disk) (j : JournalView D) → IsAtRest (disk j.disk) j.standing j.idle
     → j.begun ≡ None → Rests disk j
 none_paused disk j rests none = (rests, rw none tt)
 
--- before the first call of a journal at rest
+-- a journal at rest, before its first call
 pub from_rest : (old new : Disk) (s : Standing) (idle : Idle) → new ≡ old → IsAtRest old s idle
     → LeavesOnly old new (KeptMeans old.sectors s.number s.state)
 from_rest old new s idle same rests =
     subst (λ (d : Disk). LeavesOnly old d (KeptMeans old.sectors s.number s.state)) (sym same)
     (started old (KeptMeans old.sectors s.number s.state) (rest_means_its_state old s idle rests))
 
--- calls behind others, where what they leave goes by the sectors of the disk
+-- calls after others, if what they leave depends only on the sectors of the disk
 then_more : (start old new : Disk) (P : ℕ → Image → Type 0) → LeavesOnly start old (P start.sectors) → LeavesOnly old new (P old.sectors)
     → LeavesOnly start new (P start.sectors)
 then_more start old new P first second =
@@ -65,13 +65,13 @@ batch_goes_on start old new s t commands others same same_commands so_far more =
     (subst (λ (cs : List CommandValue). LeavesOnly old new (KeptEither old.sectors s.number s.state cs)) same_commands
     (subst (λ (u : Standing). LeavesOnly old new (KeptEither old.sectors u.number u.state others)) same more))
 
--- what leaves the number and the state leaves them or those after commands
+-- calls that leave the number and the state leave them, or those after the commands
 pub or_after : (old new : Disk) (number : ℕ) (state : State) (commands : List CommandValue)
     → LeavesOnly old new (KeptMeans old.sectors number state) → LeavesOnly old new (KeptEither old.sectors number state commands)
 or_after old new number state commands leaves =
     weaker old new (KeptMeans old.sectors number state) (KeptEither old.sectors number state commands) leaves (λ h image kept. inl kept)
 
--- a batch behind a checkpoint
+-- a batch after a checkpoint
 pub batch_behind : (start old begun new : Disk) (number n : ℕ) (state t : State) (commands others : List CommandValue)
     → begun ≡ old → n ≡ number → t ≡ state → others ≡ commands
     → LeavesOnly start old (KeptMeans start.sectors number state)
@@ -80,7 +80,7 @@ batch_behind start old begun new number n state t commands others same same_numb
     then_more start old new (λ k. KeptEither k number state commands) (or_after start old number state commands freed)
     (rw (← same, ← same_number, ← same_state, ← same_commands) written)
 
--- a run whose batch was begun is the run with the batch queued
+-- a run whose batch was begun is also the run with the batch queued
 pub still_queued : (d : Disk) (r : Run) (batch behind : List CommandValue) → r.underway ≡ [] → r.queued ≡ batch ++ behind
     → IsRun d (with_batch_begun r batch behind) → IsRun d r
 still_queued d r batch behind none queued run = record {
@@ -99,13 +99,13 @@ still_queued d r batch behind none queued run = record {
           subst (λ (cs : List CommandValue). HasPrefix d.sectors r.first r.start cs mark.acknowledged image) same (was.each h image left);
     }
 
--- where a write ends in a fault, its run is what it was
+-- if a write ends in a fault, its run is what it was
 pub faulted_run : {D : Type 0} (disk : D → Disk) (r written other : Run) (fault : WriteFault D)
     → LeavesRun disk r written (Err fault) → LeavesRun disk r other (Err fault)
 faulted_run disk r written other (Refused back cause) run = run
 faulted_run disk r written other (Failed left fault) run = run
 
--- what a refusal that leaves the journal as it was says of it
+-- a refusal that leaves the journal as it was leaves the store at rest
 pub refused_as_it_was : {D : Type 0} (disk : D → Disk) (j : JournalView D) (answer : Result (JournalView D) (WriteFault D))
     → IfRefused answer (λ back cause. (back ≡ j) × (cause ≡ Memory)) → Rests disk j
     → IfRefused answer (λ back _. RestsAt disk j.standing.number j.standing.state back)
@@ -138,7 +138,7 @@ written_is w number state command (Ok behind) same_number same_state same_comman
 )
 written_is w number state command (Err fault) same_number same_state same_commands done = tt
 
--- what is no refusal
+-- a result that is not a refusal
 pub none_refused : {D : Type 0} (P : JournalView D → BeginCause → Type 0) (answer : Result (JournalView D) (WriteFault D))
     → IfRefused answer (λ _ _. ⊥) → IfRefused answer P
 none_refused P (Ok behind) none = tt

@@ -38,36 +38,36 @@ use iol_journal::{
 use iol_types::{Command, MasterState};
 use std::alloc::Global;
 
-/// Why a disk has no new store.
+/// Why a store was not created.
 #[derive(Clone, Copy)]
 pub enum CreateFault {
-    /// It was not formatted.
+    /// The disk was not formatted.
     Format(FormatFault),
-    /// It was formatted, and not recovered.
+    /// The disk was formatted, but not recovered.
     Recover(RecoverCause),
 }
 
 /// Why a command was not written.
 #[derive(Drop)]
 pub enum WriteFault<D: SectorDisk> {
-    /// It was refused, and the store goes on without it.
+    /// The command was refused, and the store continues without it.
     Refused(Journal<D>, BeginCause),
-    /// A call of the disk failed. A disk of which a sync has failed is not gone on with: many systems drop the pages of a
-    /// failed sync and answer the next with success. Behind another fault it is to be opened again, and then has the command
-    /// or has it not.
+    /// A call of the disk failed. Stop using a disk after a failed sync: many systems drop the pages of a failed sync
+    /// and report success for the next one. After another fault, open the disk again; it then has the command or does
+    /// not have it.
     Failed(D, DiskFault),
 }
 
-/// Formats a disk for so many ports and slots, and opens it.
+/// Formats a disk for the ports and slots of a geometry, and opens it.
 ///
 /// # Errors
-/// `Format`, or `Recover` where it was formatted.
+/// `Format`, or `Recover` if the disk was formatted.
 pub fn create<D: SectorDisk + Drop>(
     alloc: Global,
     mut disk: D,
     geometry: Geometry,
 ) -> Result<Journal<D>, CreateFault>
-    // It is at rest with no command, and each image says so.
+    // The store is at rest with no command, and each image says so.
     ensures empty { IfOk result (RestsAt D.disk 0 (empty_state geometry.ports)) }
     ensures cause { IfErr result (IsCreateFault (D.disk disk) geometry) }
 {
@@ -80,15 +80,15 @@ pub fn create<D: SectorDisk + Drop>(
     }
 }
 
-/// The store on a disk, and the state after its commands.
+/// Opens the store on a disk, and returns it with the state after its commands.
 ///
 /// # Errors
-/// The cause that is met first in the order of reading; the disk is handed back.
+/// The first cause in the order of reading; the disk is returned.
 pub fn open<D: SectorDisk + Drop>(
     alloc: Global,
     disk: D,
 ) -> Result<(Journal<D>, MasterState), RecoverFault<D>>
-    // Where each image means the same, that is what is found.
+    // If each image means this number and state, these are found.
     ensures means { (number : ℕ) (state : State) → EachMeans (D.disk disk) number state
         → IfOk result (λ found. RestsAt D.disk number state found.0) }
     ensures state { IfOk result (λ found. found.1 ≡ found.0.standing.state) }
@@ -99,7 +99,7 @@ pub fn open<D: SectorDisk + Drop>(
     Journal::recover(alloc, disk)
 }
 
-/// Makes a command durable: where no slot is free a checkpoint comes first.
+/// Makes a command durable, after a checkpoint if no slot is free.
 ///
 /// # Errors
 /// `Refused` with the cause, or `Failed`.
@@ -111,20 +111,21 @@ pub fn write<D: SectorDisk + Drop>(
     // A power stop at any moment leaves the state before the command, or the state after it.
     ensures any_moment { Rests D.disk journal → LeavesOnly (D.disk journal.disk) (D.disk (left_disk result))
         (KeptEither (D.disk journal.disk).sectors journal.standing.number journal.standing.state (value_of command ∷ [])) }
-    // The command is behind those before it, on any disk.
+    // The command follows those before it, on any disk.
     ensures written { IfOk result (λ behind. (behind.standing.number ≡ journal.standing.number + 1)
         × (behind.standing.state ≡ after journal.standing.state (value_of command ∷ []))) }
-    // Each image has it.
+    // Each image has the command.
     ensures durable { Rests D.disk journal
         → IfOk result (RestsAt D.disk (journal.standing.number + 1) (after journal.standing.state (value_of command ∷ []))) }
-    // These disk calls are made, up to one that failed: its failure was counted, and its fault is told.
+    // These disk calls are made, up to one that failed: its failure was counted, and its fault is returned.
     ensures calls { MakesCalls D.disk (write_calls journal (value_of command)) (D.disk journal.disk) result }
-    // Memory ran out, or the batch of the command is refused where the journal stands.
+    // Out of memory, or the batch of the command is refused in the standing of the journal.
     ensures cause { IfRefused result (λ back cause. IsRefusal back.standing (value_of command) cause) }
-    // Each image means what it meant.
+    // Each image means what it meant before.
     ensures refused { Rests D.disk journal
         → IfRefused result (λ back _. RestsAt D.disk journal.standing.number journal.standing.state back) }
-    // Each run with the command queued goes on: each image since a moment of it has all that was acknowledged by then.
+    // Each run with the command queued continues: from any moment on, each image holds all commands acknowledged by
+    // then.
     ensures run { (r : Run) (behind : List CommandValue) → r.queued ≡ value_of command ∷ behind → IsRunAtRest D.disk r journal
         → LeavesRun D.disk r (with_batch_written (with_batch_begun r (value_of command ∷ []) behind)) result }
 {
@@ -139,7 +140,7 @@ pub fn write<D: SectorDisk + Drop>(
     }
 }
 
-// The journal with a free slot: where there is none, a checkpoint frees all.
+// Returns the journal with a free slot: if there is none, a checkpoint frees all.
 fn with_free_slot<D: SectorDisk + Drop>(journal: Journal<D>) -> Result<Journal<D>, WriteFault<D>>
     ensures any_moment { Rests D.disk journal → LeavesOnly (D.disk journal.disk) (D.disk (left_disk result))
         (KeptMeans (D.disk journal.disk).sectors journal.standing.number journal.standing.state) }

@@ -1,4 +1,4 @@
--- A run of a journal goes on with each disk call.
+-- A run of a journal continues over each disk call.
 use Rattle.std.proofs.Common.{◌≡◌, refl, List, [], ◌++◌, Option, None, sym, ◌∙◌, ap, subst}
 use Rattle.iol_types.specs.Command.{CommandValue}
 use Rattle.iol_disk.specs.Disk.{Disk}
@@ -21,7 +21,7 @@ use Rattle.iol_flush.specs.declared.stage.FlushStage.TheVariants.{Resting, Openi
 pub keeps_self : {D : Type 0} (disk : D → Disk) (stage : FlushStage D) → KeepsRun disk stage stage
 keeps_self disk stage = record { goes_on = λ number state published waiting marks was. was }
 
--- a batch is still on its way
+-- a batch is still being written
 pub still_written : {D : Type 0} (disk : D → Disk) (w v : WritingView D) → v.commands ≡ w.commands
     → ((r : Run) → IsRunWriting disk r w → IsRunWriting disk r v) → KeepsRun disk (Writing w) (Writing v)
 still_written disk w v same goes = record {
@@ -33,7 +33,7 @@ still_written disk w v same goes = record {
   );
 }
 
--- it is durable
+-- the batch is durable
 pub is_written : {D : Type 0} (disk : D → Disk) (w : WritingView D) (j : JournalView D) (written : WrittenView) → written.commands
     ≡ w.commands
     → ((r : Run) → IsRunWriting disk r w → IsRunAtRest disk (with_batch_written r) j) → KeepsRun disk (Writing w) (Publishing j written)
@@ -54,7 +54,7 @@ not_written disk w left fault goes = record {
       (w.commands, was.0, was.1, goes (run_of number state published w.commands was.0 marks) was.2);
 }
 
--- a checkpoint is still on its way
+-- a checkpoint is still being written
 pub still_checkpointed : {D : Type 0} (disk : D → Disk) (c d : CheckpointingView D) (batch : Batch)
     → ((r : Run) → IsRunCheckpointing disk r c → IsRunCheckpointing disk r d)
     → KeepsRun disk (Checkpointing c batch) (Checkpointing d batch)
@@ -79,7 +79,7 @@ not_checkpointed disk c left batch fault goes = record {
       ([], waiting, refl, goes (run_of number state published [] waiting marks) was.1);
 }
 
--- a checkpoint is begun, for which a batch waits
+-- a checkpoint for which a batch waits is begun
 pub begins_checkpoint : {D : Type 0} (disk : D → Disk) (j : JournalView D) (c : CheckpointingView D) (batch : Batch) (new : FlushStage D)
     → ((r : Run) → IsRunAtRest disk r j → IsRunCheckpointing disk r c) → KeepsRun disk (Checkpointing c batch) new
     → KeepsRun disk (Given j batch) new
@@ -104,7 +104,7 @@ begins_batch disk j w batch new same goes keeps = record {
       );
 }
 
--- a checkpoint is gone on with for which no batch waits
+-- a checkpoint for which no batch waits is continued
 pub goes_from_rest : {D : Type 0} (disk : D → Disk) (j : JournalView D) (c : CheckpointingView D) (new : FlushStage D)
     → ((r : Run) → IsRunAtRest disk r j → IsRunCheckpointing disk r c) → KeepsRun disk (Opening c) new → KeepsRun disk (Resting j) new
 goes_from_rest disk j c new goes keeps = record {
@@ -112,7 +112,7 @@ goes_from_rest disk j c new goes keeps = record {
       keeps.goes_on number state published waiting marks (goes (run_of number state published [] waiting marks) was);
 }
 
--- it is still on its way
+-- it is still being written
 pub then_keeps : {D : Type 0} (disk : D → Disk) (c d : CheckpointingView D) (new : FlushStage D)
     → ((r : Run) → IsRunCheckpointing disk r c → IsRunCheckpointing disk r d) → KeepsRun disk (Opening d) new
     → KeepsRun disk (Opening c) new
@@ -146,11 +146,11 @@ keeps_given {D} disk j k batch same journal_is batch_is =
     subst (λ (l : JournalView D). KeepsRun disk (Given j batch) (Given l same)) (sym journal_is)
     (subst (λ (b : Batch). KeepsRun disk (Given j batch) (Given j b)) (sym batch_is) (keeps_self disk (Given j batch)))
 
--- a journal that comes back is at rest as before
+-- a returned journal is at rest as before
 pub rests_still : {D : Type 0} (disk : D → Disk) (j back : JournalView D) → back ≡ j → Rests disk j → Rests disk back
 rests_still {D} disk j back same rest = subst (λ (x : JournalView D). Rests disk x) (sym same) rest
 
--- behind a checkpoint none is paused
+-- after a checkpoint none is paused
 pub rests_behind : {D : Type 0} (disk : D → Disk) (j : JournalView D) → IsAtRest (disk j.disk) j.standing j.idle → j.begun ≡ None
     → Rests disk j
 rests_behind disk j rest none =

@@ -1,4 +1,4 @@
--- What a run of a flusher's journal goes through beside its disk calls.
+-- What happens to a run of a flusher's journal apart from its disk calls.
 use Rattle.std.proofs.Common.{◌≡◌, refl, ◌≤◌, inl, inr, ℕ, zero, suc, ◌+◌, ◌-◌, true, List, [], ◌∷◌, ◌++◌, length, drop, slice_index_or}
 use Rattle.std.proofs.Common.{All, sym, ◌∙◌, ap, subst, arith, append_assoc}
 use Rattle.iol_types.specs.Command.{CommandValue}
@@ -19,7 +19,7 @@ use Rattle.iol_flush.specs.Steps.{HasTaken, HasPublished}
 use Rattle.iol_flush.specs.declared.stage.FlushStage.{FlushStage}
 use Rattle.iol_flush.specs.declared.stage.FlushStage.TheVariants.{Resting, Opening, Given, Checkpointing, Writing, Publishing, Failed}
 
--- what a stop may leave since later, it may leave since earlier
+-- an image that a power stop may leave since a later moment, it may leave since an earlier one
 none_left : (n : ℕ) (image : Image) → IsImageOfSome (drop n []) image → ⊥
 none_left zero image had = had
 none_left (suc n) image had = had
@@ -40,7 +40,7 @@ since_earlier c t u image le (inr here) = inr here
 since_earlier c t u image le (inl had) =
     inl (some_later c.past t (u - t) image (subst (λ (n : ℕ). IsImageOfSome (drop n c.past) image) (omega (arith, le)) had))
 
--- a moment at which nothing more is acknowledged than at one before
+-- a moment at which no more is acknowledged than at an earlier one
 later_mark : (d : Disk) (r : Run) (mark : Mark) → IsMarked d r mark
     → IsMarked d r (record { clock = clock d.content; acknowledged = mark.acknowledged })
 later_mark d r mark was = record {
@@ -49,7 +49,7 @@ later_mark d r mark was = record {
   each = λ h image left. was.each h image (since_earlier d.content mark.clock (clock d.content) image (was.passed h) left);
 }
 
--- it is one more of a run
+-- a run with this moment added
 later_run : (d : Disk) (r : Run) (mark : Mark) (marks : List Mark) → r.marks ≡ mark ∷ marks → IsRun d r
     → IsRun d (with_mark r (record { clock = clock d.content; acknowledged = mark.acknowledged }))
 later_run d r mark marks same run = record { passes = run.passes; marks = all }
@@ -68,7 +68,7 @@ later_run d r mark marks same run = record { passes = run.passes; marks = all }
     all (suc k) m below = again (slice_index_or r.marks k m) (run.marks k m (omega (arith, below)))
 
 module _ {D : Type 0} (disk : D → Disk) (number : ℕ) (state : State) (published waiting : List CommandValue) where
-  -- a moment of a journal at rest at which nothing more is acknowledged
+  -- a moment of a journal at rest at which no more is acknowledged
   later_at_rest : (written underway queued : List CommandValue) (mark : Mark) (marks : List Mark) (j : JournalView D) (t : ℕ)
       → t ≡ clock (disk j.disk).content
       → IsRunAtRest disk (run_of number state written underway queued (mark ∷ marks)) j
@@ -87,7 +87,7 @@ module _ {D : Type 0} (disk : D → Disk) (number : ℕ) (state : State) (publis
         was.3,
       )
 
-  -- nothing more is acknowledged at this moment than at the one before
+  -- no more is acknowledged at this moment than at the one before
   pub marked_later : (mark : Mark) (marks : List Mark) (stage : FlushStage D)
       → IsFlushing disk number state published waiting (mark ∷ marks) stage
       → IsFlushing disk number state published waiting
@@ -135,7 +135,7 @@ module _ {D : Type 0} (disk : D → Disk) (number : ℕ) (state : State) (publis
   marked_later mark marks (Failed left fault) was =
       (was.0, was.1, was.2, later_run (disk left) (run_of number state published was.0 was.1 (mark ∷ marks)) mark marks refl was.3)
 
-  -- what waits, with more behind it
+  -- the waiting commands, with more after them
   longer : (front behind more : List CommandValue) → waiting ≡ front ++ behind → waiting ++ more ≡ front ++ (behind ++ more)
   longer front behind more same = ap (λ (cs : List CommandValue). cs ++ more) same ∙ append_assoc front behind more
 
@@ -143,7 +143,7 @@ module _ {D : Type 0} (disk : D → Disk) (number : ℕ) (state : State) (publis
       → legal (after state (published ++ (front ++ behind))) more ≡ true
   passes_in front behind more same pass = subst (λ (cs : List CommandValue). legal (after state (published ++ cs)) more ≡ true) same pass
 
-  -- a batch is given: the first of those that wait
+  -- a batch is given: the first of the waiting commands
   pub gives : (marks : List Mark) (old new : FlushStage D) (batch : Batch) → HasTaken old batch new
       → AreFirst (values batch.commands.items) waiting
       → IsFlushing disk number state published waiting marks old → IsFlushing disk number state published waiting marks new
@@ -156,7 +156,8 @@ module _ {D : Type 0} (disk : D → Disk) (number : ℕ) (state : State) (publis
   gives marks (Publishing j written) new batch taken first was = absurd taken
   gives marks (Failed left fault) new batch taken first was = absurd taken
 
-  -- the batch that is durable is published: it is the first of those that wait, and waits no more
+  -- the durable batch is published: it is the first of the waiting commands, and is removed from
+  -- them
   pub publishes : (marks : List Mark) (old : FlushStage D) (list : List CommandValue) (new : FlusherView D) (committed : CommittedView)
       → HasPublished old list new committed → IsFlushing disk number state published waiting marks old
       → (behind : List CommandValue) × (waiting ≡ committed.commands ++ behind)
@@ -182,7 +183,7 @@ module _ {D : Type 0} (disk : D → Disk) (number : ℕ) (state : State) (publis
       subst (λ (cs : List CommandValue). HoldsBy d number state cs marks) (sym same)
       (record { passes = run.passes; images = λ k mark below. (run.marks k mark below).each })
 
-  -- what a stop leaves
+  -- what a power stop leaves
   pub holds : (marks : List Mark) (stage : FlushStage D) → IsFlushing disk number state published waiting marks stage
       → HoldsBy (disk (disk_of stage)) number state (published ++ waiting) marks
   holds marks (Resting j) was = holds_of (disk j.disk) published [] waiting marks refl was.1.0
@@ -197,7 +198,7 @@ module _ {D : Type 0} (disk : D → Disk) (number : ℕ) (state : State) (publis
   holds marks (Failed left fault) was =
       holds_of (disk left) published was.0 was.1 marks (ap (λ (cs : List CommandValue). published ++ cs) was.2) was.3
 
-  -- more commands are accepted, each of which passes in the state that it meets
+  -- more commands are accepted if each passes in the state that it meets
   pub accepts_more : (marks : List Mark) (stage : FlushStage D) (commands : List CommandValue)
       → legal (after state (published ++ waiting)) commands ≡ true
       → IsFlushing disk number state published waiting marks stage
@@ -265,7 +266,7 @@ module _ {D : Type 0} (disk : D → Disk) (number : ℕ) (state : State) (publis
     accepts (disk left) (run_of number state published was.0 was.1 marks) commands (passes_in was.0 was.1 commands was.2 pass) was.3,
   )
 
-  -- what is published is acknowledged at this moment, while the journal is at rest
+  -- published commands are acknowledged at this moment, while the journal is at rest
   pub acknowledges : (marks : List Mark) (acknowledged : ℕ) (j : JournalView D) → acknowledged ≤ number + length published
       → IsFlushing disk number state published waiting marks (Resting j)
       → IsFlushing disk number state published waiting (record { clock = clock (disk j.disk).content; acknowledged = acknowledged } ∷ marks)

@@ -1,4 +1,4 @@
--- The first disk call of a batch that was given, and the published list beside each disk call.
+-- The first disk call of a given batch, and the published list during each disk call.
 use Rattle.std.proofs.Common.{◌≡◌, refl, ◌<◌, ◌+◌, ◌*◌, ◌||◌, not, nat_le, ◌++◌, ℕ, Bool, true, false, if◌then◌else◌, List, [], length}
 use Rattle.std.proofs.Common.{inl, inr, Option, Some, None, is_some, Result, Ok, Err, sym, ◌∙◌, ap, subst, arith, length-append, rules}
 use Rattle.std.proofs.lemmas.List.Sums.{fold-append}
@@ -33,7 +33,7 @@ use Rattle.iol_flush.specs.declared.fault.FlushFault.TheVariants as fault
 use Rattle.iol_flush.specs.declared.stage.FlushStage.{FlushStage}
 use Rattle.iol_flush.specs.declared.stage.FlushStage.TheVariants.{Resting, Opening, Given, Checkpointing, Writing, Publishing, Failed}
 
--- a batch that is taken finds free slots
+-- an accepted batch finds free slots
 abbrev Refused : Bool → Bool → Bool → Option BeginCause
 Refused large full fits = if large then Some TooLarge else if full then Some NeedsCheckpoint else if fits then None else Some Misfit
 
@@ -54,7 +54,7 @@ next_of_batch j batch none =
     ap (λ (full : Bool). if full then calls_of j.standing (begun_in j) else batch_calls j.standing (values batch.commands.items))
     (not_full j batch none)
 
--- what a batch is before its first disk call
+-- a batch before its first disk call
 pub record IsBegun {D : Type 0} (j : JournalView D) (batch : Batch) (w : WritingView D) : Type 0 where
   pub same : w ≡ writing_of j (values batch.commands.items)
   pub refusal : batch_refusal j.standing batch.first (values batch.commands.items) ≡ None
@@ -83,7 +83,7 @@ begun disk j batch w new (Err fault.Stopped) is step = let stopped : need.Disk �
 begun disk j batch w new (Err fault.Memory) is step = absurd step.0
 begun disk j batch w new (Err fault.Misfit) is step = absurd step.0
 
--- a new checkpoint is begun where half of the slots are used, and one at least
+-- a new checkpoint is begun if half of the slots are used, and at least one is
 pub half_used : {D : Type 0} (j : JournalView D) (half : Bool) → half ≡ nat_le j.standing.layout.slots (2 * j.standing.used)
     → (half ≡ true → 0 < j.standing.used) → is_due j ≡ true → j.begun ≡ None → is_renewed j.standing.layout ≡ true → 0 < j.standing.used
 half_used j half is used due none newest =
@@ -93,7 +93,7 @@ half_used j half is used due none newest =
 next_of_due : {D : Type 0} (j : JournalView D) → is_due j ≡ true → next_calls (Resting j) ≡ calls_of j.standing (begun_in j)
 next_of_due j due = ap (λ (due : Bool). if due then calls_of j.standing (begun_in j) else []) due
 
--- a disk call of it is made while no batch is given
+-- a disk call of the checkpoint is made while no batch is given
 pub gone_on : {D : Type 0} (disk : D → Disk) (j : JournalView D) (c : CheckpointingView D) (new : FlushStage D)
     (answer : Result Unit FlushFault)
     → is_due j ≡ true → c ≡ checkpoint_of j → IsDiskStep disk (Opening c) new answer → IsDiskStep disk (Resting j) new answer
@@ -113,7 +113,7 @@ gone_on disk j c new (Err fault.Stopped) due same step = let stopped : need.Disk
 gone_on disk j c new (Err fault.Memory) due same step = absurd step.0
 gone_on disk j c new (Err fault.Misfit) due same step = absurd step.0
 
--- it is paused behind that disk call, where it can be
+-- the checkpoint is paused after that disk call if it can be
 pub set_aside_step : {D : Type 0} (disk : D → Disk) (c more : CheckpointingView D) (new : FlushStage D) → IsCheckpointMoved c more
     → MakesFirst (stages_left c) (stages_left more) (disk c.disk) (disk more.disk) (Ok tt) → IsLeftPaused more new
     → IsDiskStep disk (Opening c) new (Ok tt)
@@ -127,7 +127,7 @@ set_aside_step disk c more (Writing w) moved made aside = absurd aside
 set_aside_step disk c more (Publishing j written) moved made aside = absurd aside
 set_aside_step disk c more (Failed left f) moved made aside = absurd aside
 
--- it is done
+-- the checkpoint is done
 pub ended_step : {D : Type 0} (disk : D → Disk) (c : CheckpointingView D) (j : JournalView D) → IsCheckpointDone c j
     → MakesFirst (stages_left c) [] (disk c.disk) (disk j.disk) (Ok tt) → IsDiskStep disk (Opening c) (Resting j) (Ok tt)
 ended_step disk c j is made = (
@@ -136,7 +136,7 @@ ended_step disk c j is made = (
       (sym is.none) made,
 )
 
--- a journal stands behind a list, and then behind the list with a batch
+-- a journal that is at the end of a list is, after a batch, at the end of the list with the batch
 with_more : (start : Start) (published commands : List CommandValue) (s t : Standing) (h i : History) → t ≡ with_batch s commands → i
     ≡ written_behind h commands
     → StandsBehind start published s h → StandsBehind start (published ++ commands) t i
@@ -173,7 +173,7 @@ written_in_step start published w (Given j b) has was = absurd has
 written_in_step start published w (Checkpointing c b) has was = absurd has
 written_in_step start published w (Failed d f) has was = absurd has
 
--- behind a checkpoint the journal is at the same number and state
+-- after a checkpoint the journal is at the same number and state
 done_in_step : {D : Type 0} (start : Start) (published : List CommandValue) (c : CheckpointingView D) (j : JournalView D)
     → IsCheckpointDone c j → StandsBehind start published c.standing c.history → StandsBehind start published j.standing j.history
 done_in_step start published c j is was = record {
@@ -248,7 +248,7 @@ stays_in_step {D} disk start published old new (Err fault.Memory) step was =
 stays_in_step {D} disk start published old new (Err fault.Misfit) step was =
     subst (λ (s : FlushStage D). IsInStep start s published) (sym step.1) was
 
--- what a journal has done leads to where it stands
+-- what a journal has done leads to its number and state
 pub stands_behind : (start : Start) (commands : List CommandValue) (s : Standing) (h : History) → HasHistory start commands h → LeadsTo s h
     → StandsBehind start commands s h
 stands_behind start commands s h has leads = record {

@@ -1,4 +1,5 @@
--- Each disk call leaves fewer calls to make, and a batch of the queue is never refused for what it is.
+-- Each disk call leaves fewer calls to make, and a batch of the queue is never refused as too large or
+-- as not following the journal.
 use Rattle.std.proofs.Common.{◌≡◌, ◌≤◌, ◌⊎◌, inl, inr, ◌+◌, ◌-◌, ◌*◌, ◌||◌, ℕ, Bool, true, false, if◌then◌else◌, nat_lt, List, [], length}
 use Rattle.std.proofs.Common.{Option, Some, None, Result, Ok, Err, refl, sym, ◌∙◌, ap, subst, arith, rules}
 use Rattle.std.proofs.lemmas.Bool.Decides.{nat_tests}
@@ -33,11 +34,11 @@ use Rattle.iol_flush.specs.declared.fault.FlushFault.TheVariants as fault
 use Rattle.iol_flush.specs.declared.stage.FlushStage.{FlushStage}
 use Rattle.iol_flush.specs.declared.stage.FlushStage.TheVariants.{Resting, Opening, Given, Checkpointing, Writing, Publishing, Failed}
 
--- one call less is owed
+-- one call fewer is needed
 pub one_less : (calls left : List Call) (old new : Disk) → MakesFirst calls left old new (Ok tt) → length calls ≡ length left + 1
 one_less calls left old new made = ap length made.order ∙ omega arith
 
--- a batch that fits an area finds room where no slot is used
+-- a batch that fits an area finds enough free slots if no slot is used
 finds_room : (s : Standing) (commands : List CommandValue) → is_renewed s.layout ≡ true → fits_no_area s commands ≡ false → s.used ≡ 0
     → wants_checkpoint s commands ≡ false
 finds_room s commands newest small none =
@@ -52,11 +53,11 @@ finds_room s commands newest small none =
     second true long small = absurd cc
     second false long small = small
 
--- the layout behind a checkpoint, once it is renewed
+-- the layout after a checkpoint, which renews it
 same_layout : (was now : Layout) → now ≡ renewed was → renewed now ≡ renewed was
 same_layout was now is = ap renewed is ∙ renewed-twice was
 
--- a new checkpoint has two disk calls at least
+-- a new checkpoint has at least two disk calls
 two_calls : {D : Type 0} (j : JournalView D) → j.begun ≡ None → 2 ≤ length (calls_of j.standing (begun_in j))
 two_calls j none = rw none (of j.standing j.idle)
   where
@@ -124,7 +125,7 @@ module _ {D : Type 0} (disk : D → Disk) where
   checkpointed_needs c batch (Publishing j written) n small has le = absurd has
   checkpointed_needs c batch (Failed d f) n small has le = absurd has
 
-  -- a new checkpoint carries none, so no other follows it
+  -- a new checkpoint carries no batch, so no other checkpoint follows it
   again_in : (j : JournalView D) (begun : Option BegunView) → j.begun ≡ begun
       → most_checkpoint_calls (renewed j.standing.layout) + calls_again (checkpoint_of j) + 1
       ≤ freeing_calls (renewed j.standing.layout) begun
@@ -194,7 +195,7 @@ module _ {D : Type 0} (disk : D → Disk) where
   begun_needs false j batch (Opening c) old next has few made = absurd has.1
   begun_needs false j batch (Failed d f) old next has few made = absurd has.1
 
-  -- a disk call that is made for a batch leaves at least one call less
+  -- a disk call made for a batch leaves at least one call fewer
   pub advances : (old new : FlushStage D) → 1 ≤ calls_needed old → HasFewCalls old → HasFewCalls new → IsDiskStep disk old new (Ok tt)
       → calls_needed new + 1 ≤ calls_needed old
   advances (Given j batch) new some few_old few_new step =
@@ -211,7 +212,7 @@ module _ {D : Type 0} (disk : D → Disk) where
   advances (Publishing j written) new some few_old few_new step = absurd step.0
   advances (Failed d f) new some few_old few_new step = absurd step.0
 
--- why a batch is refused that is not too large and goes on where the journal stands
+-- why a batch that is not too large and follows the journal is refused
 abbrev Refused : Bool → Bool → Bool → Option BeginCause
 Refused large full fits = if large then Some TooLarge else if full then Some NeedsCheckpoint else if fits then None else Some Misfit
 
@@ -224,7 +225,7 @@ only_full false false true small fit (inl is) = search rules
 only_full false false true small fit (inr is) = search rules
 only_full false false false small fit is = search rules
 
--- a batch that goes on where the journal stands is not refused for what it is
+-- a batch that follows the journal and fits an area is not refused as unfit
 pub is_fit : {D : Type 0} (stage : FlushStage D) → GoesOn stage → IsUnfit stage → ⊥
 is_fit (Given j batch) goes unfit =
     only_full (fits_no_area j.standing (values batch.commands.items))
@@ -249,7 +250,7 @@ checkpointed_goes c batch (Given j kept) has goes =
       next = ap (λ (n : ℕ). follows_at n j.standing.state) has.0.number ∙ ap (follows_at c.standing.number) has.0.state ∙ goes.next;
     })
   where
-    -- whether it follows depends on number and state alone
+    -- whether it follows depends only on the number and the state
     follows_at : ℕ → State → Bool
     follows_at n state =
         follows (record {
@@ -306,7 +307,7 @@ failed_goes (Publishing j written) cause is = tt
 failed_goes (Given j b) cause is = search rules
 failed_goes (Checkpointing c b) cause is = search rules
 
--- after a disk call the batch that is still to be begun goes on where the journal stands
+-- after a disk call, a batch that is still to be begun follows the journal
 pub goes_on : {D : Type 0} (disk : D → Disk) (old new : FlushStage D) (answer : Result Unit FlushFault) → IsDiskStep disk old new answer
     → GoesOn old → GoesOn new
 goes_on disk old new (Ok done) step goes = made_goes old new step.0 goes

@@ -1,4 +1,4 @@
--- A run of a journal while the flusher has it.
+-- A run of a journal while the flusher holds the journal.
 use Rattle.std.specs.Prelude.{◌≡◌, ℕ, true, false, IsTrue, List, [], ◌++◌, All}
 use Rattle.iol_types.specs.Command.{CommandValue}
 use Rattle.iol_types.specs.State.{State, legal}
@@ -19,8 +19,8 @@ use Rattle.iol_journal.specs.declared.batch.Batch.{Batch}
 use Rattle.iol_flush.specs.declared.stage.FlushStage.{FlushStage}
 use Rattle.iol_flush.specs.declared.stage.FlushStage.TheVariants.{Resting, Opening, Given, Checkpointing, Writing, Publishing, Failed}
 
--- a run that began with a number and a state: the commands that are written, those of the batch that is underway, those
--- that wait behind it, and moments (own)
+-- a run that began with a number and a state: the written commands, those of the batch underway, those that wait after it, and
+-- moments (own)
 abbrev pub run_of : ℕ → State → List CommandValue → List CommandValue → List CommandValue → List Mark → Run
 run_of number state written underway queued marks = record {
   first = number;
@@ -31,12 +31,12 @@ run_of number state written underway queued marks = record {
   marks = marks;
 }
 
--- commands are the first of those that wait (own)
+-- commands are the first of the waiting ones (own)
 abbrev pub AreFirst : List CommandValue → List CommandValue → Type 0
 AreFirst commands waiting = (behind : List CommandValue) × (waiting ≡ commands ++ behind)
 
--- a flusher has a run of its journal, which began with a number and a state: of the commands that were accepted, these are
--- published and those wait; a batch that is given, underway or not yet published is the first of those that wait (own)
+-- a flusher has a run of its journal, which began with a number and a state: of the accepted commands, some are published and the
+-- others wait; a batch that is given, underway or not yet published is the first of the waiting ones (own)
 abbrev pub IsFlushing : {D : Type 0} → (D → Disk) → ℕ → State → List CommandValue → List CommandValue → List Mark → FlushStage D → Type 0
 IsFlushing disk number state published waiting marks (Resting journal) =
     IsRunAtRest disk (run_of number state published [] waiting marks) journal
@@ -56,35 +56,35 @@ IsFlushing disk number state published waiting marks (Failed left fault) =
     (underway behind : List CommandValue) × (waiting ≡ underway ++ behind)
     × IsRun (disk left) (run_of number state published underway behind marks)
 
--- a batch goes on where a journal stands: it fits an area, and follows (own)
+-- a batch follows a journal and fits an area (own)
 pub record FitsBatch (standing : Standing) (batch : Batch) : Type 0 where
   pub small : fits_no_area standing (values batch.commands.items) ≡ false
   pub next : follows standing batch.first (values batch.commands.items) ≡ true
 
--- the batch that was given, if one is still to be begun, goes on where the journal stands (own)
+-- a given batch that is still to be begun follows the journal and fits an area (own)
 abbrev pub GoesOn : {D : Type 0} → FlushStage D → Type 0
 GoesOn (Given journal batch) = FitsBatch journal.standing batch
 GoesOn (Checkpointing checkpoint batch) = FitsBatch checkpoint.standing batch
 GoesOn stage = Unit {0}
 
--- whatever run a flusher has of its journal, it has it still (own)
+-- each run that a flusher had of its journal, it still has (own)
 pub record KeepsRun {D : Type 0} (disk : D → Disk) (old new : FlushStage D) : Type 0 where
   pub goes_on : (number : ℕ) (state : State) (published waiting : List CommandValue) (marks : List Mark)
       → IsFlushing disk number state published waiting marks old → IsFlushing disk number state published waiting marks new
 
--- of commands that were accepted from a number and a state on, each passes in the state that it meets; and each image of an honest
--- disk since a moment has what was acknowledged by then, and behind it none but the next of them, in their order (own)
+-- each command accepted from a number and a state on passes in the state that it meets; and every image of an honest disk since a
+-- moment has all commands acknowledged by then, and after them only the next ones, in order (own)
 pub record HoldsBy (d : Disk) (number : ℕ) (state : State) (commands : List CommandValue) (marks : List Mark) : Type 0 where
   pub passes : legal state commands ≡ true
   pub images : All (λ mark. IsTrue d.honest → (image : Image) → IsImageSince mark.clock d.content image
       → HasPrefix d.sectors number state commands mark.acknowledged image) marks
 
--- a journal is at rest, and the checkpoint that is paused, if one is, can be gone on with (own)
+-- a journal is at rest, and its paused checkpoint, if there is one, can be continued (own)
 abbrev pub Rests : {D : Type 0} → (D → Disk) → JournalView D → Type 0
 Rests disk j = IsAtRest (disk j.disk) j.standing j.idle × IsPaused (disk j.disk) j.standing j.begun
 
--- what a stop of an honest disk may leave is kept, at each stage of a flusher: the journal is at rest, or what is on its way
--- is underway; of a disk that failed nothing is said (own)
+-- at each stage of a flusher, every image that a power stop of an honest disk may leave is kept: the journal is at rest, or its
+-- batch or checkpoint is underway; nothing is claimed of a failed disk (own)
 abbrev pub IsSound : {D : Type 0} → (D → Disk) → FlushStage D → Type 0
 IsSound disk (Resting journal) = Rests disk journal
 IsSound disk (Opening checkpoint) = IsCheckpointUnderway disk checkpoint

@@ -1,4 +1,4 @@
--- How far a flusher is: what it needs, its disk, and the disk calls that are owed.
+-- The stages of a flusher: what it needs next, its disk, and the disk calls that it still makes.
 use Rattle.std.specs.Prelude.{◌≡◌, ◌≤◌, ℕ, ◌+◌, ◌*◌, nat_le, not, Bool, true, false, ◌||◌, if◌then◌else◌, List, [], ◌++◌, length}
 use Rattle.std.specs.Prelude.{Option, Some, None, is_some}
 use Rattle.iol_types.specs.Command.{CommandValue}
@@ -23,19 +23,19 @@ use Rattle.iol_flush.specs.declared.need.Need.TheVariants as need
 use Rattle.iol_flush.specs.declared.stage.FlushStage.{FlushStage}
 use Rattle.iol_flush.specs.declared.stage.FlushStage.TheVariants.{Resting, Opening, Given, Checkpointing, Writing, Publishing, Failed}
 
--- a checkpoint is to be begun, as the journal has an older layout or half of its slots are used, or to be gone on with, as one is
--- paused (own)
+-- a checkpoint is due: one is paused and must continue, or one must begin because the layout is an older one or half of the slots
+-- are used (own)
 abbrev pub is_due : {D : Type 0} → JournalView D → Bool
 is_due journal =
     not (is_renewed journal.standing.layout)
     || (is_some journal.begun || nat_le journal.standing.layout.slots (2 * journal.standing.used))
 
--- the call that comes next where one is due: before that of an older layout no batch is taken (own)
+-- the need while a checkpoint is due: with an older layout it comes before any batch (own)
 abbrev pub due_need : Bool → Need
 due_need true = need.BatchOrDisk
 due_need false = need.Disk
 
--- the call that comes next (own)
+-- the call that a flusher needs next (own)
 abbrev pub need_of : {D : Type 0} → FlushStage D → Need
 need_of (Resting journal) = if is_due journal then due_need (is_renewed journal.standing.layout) else need.Batch
 need_of (Opening checkpoint) = need.Disk
@@ -45,7 +45,7 @@ need_of (Writing writing) = need.Disk
 need_of (Publishing journal written) = need.Publish
 need_of (Failed disk fault) = need.Stopped
 
--- a need names a batch, and a disk call (own)
+-- a batch is accepted, and a disk call is possible (own)
 abbrev pub names_batch : Need → Bool
 names_batch need.Batch = true
 names_batch need.BatchOrDisk = true
@@ -56,18 +56,18 @@ names_disk need.Disk = true
 names_disk need.BatchOrDisk = true
 names_disk other = false
 
--- how the disk has failed, if it has (own)
+-- the fault of the disk call that failed, if one has (own)
 abbrev pub failure_of : {D : Type 0} → FlushStage D → Option DiskFault
 failure_of (Failed disk fault) = Some fault
 failure_of stage = None
 
--- how many octets of records a batch that is given now may have: as many as fit the free slots of a journal at rest, and one
--- slot where none is free, or at another stage (own)
+-- the number of record octets that a batch given now may have: the capacity of the free slots of a journal at rest, or of one
+-- slot if none is free or at another stage (own)
 abbrev pub room_of : {D : Type 0} → FlushStage D → ℕ
 room_of (Resting journal) = room_in journal.standing
 room_of stage = MOST_RECORD_OCTETS
 
--- records of no more than so many octets fit an area of a journal at rest, in the layout that is written (own)
+-- records of at most `room` octets fit an area of a journal at rest, in the newest layout (own)
 abbrev pub FitsArea : {D : Type 0} → FlushStage D → ℕ → Type 0
 FitsArea (Resting journal) room = (octets : ℕ) → octets ≤ room → slots_of octets ≤ (renewed journal.standing.layout).slots
 FitsArea stage room = Unit {0}
@@ -82,12 +82,12 @@ disk_of (Writing writing) = writing.disk
 disk_of (Publishing journal written) = journal.disk
 disk_of (Failed disk fault) = disk
 
--- the disk calls of the checkpoint that is paused, if one is (own)
+-- the disk calls of the paused checkpoint, if one is paused (own)
 abbrev pub paused_calls : Standing → Option BegunView → List Call
 paused_calls standing None = []
 paused_calls standing (Some begun) = calls_of standing begun
 
--- the disk calls of what is on its way that are still owed (own)
+-- the disk calls that the batch or checkpoint being written still needs (own)
 abbrev pub calls_owed : {D : Type 0} → FlushStage D → List Call
 calls_owed (Resting journal) = paused_calls journal.standing journal.begun
 calls_owed (Opening checkpoint) = stages_left checkpoint
@@ -95,8 +95,8 @@ calls_owed (Checkpointing checkpoint batch) = stages_left checkpoint
 calls_owed (Writing writing) = calls_left writing
 calls_owed stage = []
 
--- the disk calls that come next: those of a batch that was given or, where too few slots are free for it, of a checkpoint; where
--- no batch was given, those of the checkpoint that is due (own)
+-- the next disk calls: those of the given batch or, if too few slots are free for it, of a checkpoint; if no batch was given,
+-- those of the checkpoint that is due (own)
 abbrev pub next_calls : {D : Type 0} → FlushStage D → List Call
 next_calls (Resting journal) = if is_due journal then calls_of journal.standing (begun_in journal) else []
 next_calls (Given journal batch) =
@@ -104,19 +104,19 @@ next_calls (Given journal batch) =
     else batch_calls journal.standing (values batch.commands.items)
 next_calls stage = calls_owed stage
 
--- what a journal has written since its recovery, from the front's start on (own)
+-- a journal has written this list since its recovery, from the front's start on (own)
 pub record HasHistory (start : Start) (commands : List CommandValue) (history : History) : Type 0 where
   pub first : history.first ≡ start.number
   pub start_is : history.start ≡ start.state
   pub list : history.commands ≡ commands
 
--- a journal has written this list from the front's start on, and stands behind it (own)
+-- a journal has written this list from the front's start on, and is at the number and state after it (own)
 pub record StandsBehind (start : Start) (commands : List CommandValue) (standing : Standing) (history : History) : Type 0 where
   pub history_is : HasHistory start commands history
   pub number : standing.number ≡ start.number + length commands
   pub state : standing.state ≡ after start.state commands
 
--- the journal's list is the list that is published, followed by the batch that is durable and not yet published (own)
+-- the journal's list is the published list, followed by the batch that is durable and not yet published (own)
 abbrev pub IsInStep : {D : Type 0} → Start → FlushStage D → List CommandValue → Type 0
 IsInStep start (Resting journal) published = StandsBehind start published journal.standing journal.history
 IsInStep start (Opening checkpoint) published = StandsBehind start published checkpoint.standing checkpoint.history
@@ -128,17 +128,17 @@ IsInStep start (Publishing journal written) published =
     × (written.first ≡ start.number + length published + 1)
 IsInStep start (Failed disk fault) published = Unit {0}
 
--- the most disk calls of a checkpoint: one for each slot, one for each sector of a port's record, nine more, and 19
--- for each slot that is carried (own)
+-- the largest number of disk calls of a checkpoint: one for each slot, one for each sector of a port's record, nine more, and 19
+-- for each carried slot (own)
 abbrev pub most_checkpoint_calls : Layout → ℕ
 most_checkpoint_calls layout = 20 * layout.slots + record_sectors layout + 9
 
--- the most disk calls of a batch: 16 for each command, which takes a slot at most, and three more (own)
+-- the largest number of disk calls of a batch: 16 for each command, which takes at most one slot, and three more (own)
 abbrev pub most_batch_calls : List CommandValue → ℕ
 most_batch_calls commands = BODY_SECTORS * length commands + 3
 
--- what is on its way has few disk calls: those of a batch, those of a checkpoint into an area that the batch fits, and those of
--- one for which no batch waits (own)
+-- the disk calls still needed are at most those of a batch, of a checkpoint into an area that the waiting batch fits, or of a
+-- checkpoint for which no batch waits (own)
 abbrev pub HasFewCalls : {D : Type 0} → FlushStage D → Type 0
 HasFewCalls (Opening checkpoint) = length (stages_left checkpoint) ≤ most_checkpoint_calls (renewed checkpoint.standing.layout)
 HasFewCalls (Checkpointing checkpoint batch) =
@@ -147,7 +147,7 @@ HasFewCalls (Checkpointing checkpoint batch) =
 HasFewCalls (Writing writing) = length (calls_left writing) ≤ most_batch_calls writing.commands
 HasFewCalls stage = Unit {0}
 
--- a flusher as contracts see it: how far it is, and the list that is published (own)
+-- a flusher as contracts see it: its stage, and the published list (own)
 pub record FlusherView (D : Type 0) : Type 0 where
   pub stage : FlushStage D
   pub published : List CommandValue

@@ -1,4 +1,4 @@
-//! One disk call of the journal that a flusher has.
+//! One disk call of a flusher's journal.
 
 ghost use Rattle.std.specs.Prelude.{◌≡◌, ◌<◌, ◌⊎◌, true, false};
 ghost use Rattle.iol_journal.specs.Begin.{fits_no_area, wants_checkpoint};
@@ -18,7 +18,7 @@ use iol_journal::{
     Progress, Writing,
 };
 
-// Makes the next disk call, unless one has failed before.
+// Makes the next disk call, unless an earlier one failed.
 pub(crate) fn make_call<D: SectorDisk>(
     stage: FlushStage<D>,
     _call: (),
@@ -44,7 +44,7 @@ pub(crate) fn make_call<D: SectorDisk>(
     }
 }
 
-// Makes the next disk call of the checkpoint that is due while no batch is given.
+// Makes the next disk call of the due checkpoint while no batch is given.
 fn go_on<D: SectorDisk>(journal: Journal<D>) -> (FlushStage<D>, Result<(), FlushFault>)
     requires due { is_due journal ≡ true }
     ensures step { IsDiskStep D.disk (stage.Resting journal) result.0 result.1 }
@@ -62,7 +62,7 @@ fn go_on<D: SectorDisk>(journal: Journal<D>) -> (FlushStage<D>, Result<(), Flush
     }
 }
 
-// Makes the next disk call of a checkpoint for which no batch waits.
+// Makes the next disk call of a checkpoint while no batch waits for it.
 fn advance<D: SectorDisk>(
     checkpointing: Checkpointing<D>,
 ) -> (FlushStage<D>, Result<(), FlushFault>)
@@ -84,7 +84,7 @@ fn advance<D: SectorDisk>(
     }
 }
 
-// Pauses a checkpoint, where it can be paused, so that a batch may come before its next disk call.
+// Pauses a checkpoint if possible, so that a batch may come before its next disk call.
 fn set_aside<D: SectorDisk>(checkpointing: Checkpointing<D>) -> FlushStage<D>
     requires few { HasFewCalls (stage.Opening checkpointing) }
     ensures aside { IsLeftPaused checkpointing result }
@@ -99,7 +99,8 @@ fn set_aside<D: SectorDisk>(checkpointing: Checkpointing<D>) -> FlushStage<D>
     }
 }
 
-// Makes the first disk call of a batch or, where too few slots are free for it, of a checkpoint before it.
+// Makes the first disk call of a batch or, if too few slots are free for it, the next one of a
+// checkpoint before it.
 fn begin<D: SectorDisk>(
     journal: Journal<D>,
     batch: Batch,
@@ -130,7 +131,7 @@ fn begin<D: SectorDisk>(
     }
 }
 
-// Makes the next disk call of a checkpoint, as too few slots are free.
+// Makes the next disk call of a checkpoint, because too few slots are free for the batch.
 fn begin_checkpoint<D: SectorDisk>(
     journal: Journal<D>,
     batch: Batch,
@@ -152,7 +153,7 @@ fn begin_checkpoint<D: SectorDisk>(
     }
 }
 
-// Makes the next disk call of a checkpoint, for which a batch waits.
+// Makes the next disk call of a checkpoint while a batch waits for it.
 fn checkpoint<D: SectorDisk>(
     checkpointing: Checkpointing<D>,
     batch: Batch,

@@ -1,4 +1,4 @@
-//! Facts with values, worked out by the check: a number that is wrong in a definition and in the code alike is refused here.
+//! Worked values that the check computes: they catch a number that is wrong both in a definition and in the code.
 
 ghost use Rattle.std.specs.Prelude.{◌≡◌, true, false, Some, None};
 ghost use Rattle.iol_journal.specs.BegunViews.{BegunView};
@@ -11,7 +11,7 @@ ghost use Rattle.iol_flush.specs.declared.stage.FlushStage.TheVariants.{Resting,
 
 use iol_disk::SectorDisk;
 
-/// Of three slots two have to be used before a checkpoint is due, or one is paused; or the layout is an older one.
+/// A checkpoint is due if two of three slots are used, if one is paused, or if the layout is an older one.
 pub fn a_checkpoint_is_due<D: SectorDisk>()
     ensures none_used { (disk : D) (history : History)
         → is_due (record { disk = disk; standing = standing_of 0 9; idle = Older; history = history; begun = None }) ≡ false }
@@ -25,7 +25,8 @@ pub fn a_checkpoint_is_due<D: SectorDisk>()
         → is_due (record { disk = disk; standing = older_standing_of 0 9; idle = Older; history = history; begun = None }) ≡ true }
 {}
 
-/// The octets of records that a batch may have: what the free ones of three slots hold, or one slot.
+/// The record octets that a batch may have: what the free slots of three hold, or one slot if none is free or a durable
+/// batch is not yet published.
 pub fn rooms<D: SectorDisk>()
     ensures two_free { (disk : D) (history : History)
         → room_of (Resting (record { disk = disk; standing = standing_of 1 9; idle = Older; history = history; begun = None })) ≡ 16362 }

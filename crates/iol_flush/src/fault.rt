@@ -1,30 +1,30 @@
-//! Why a call of the flusher does not do what it is asked.
+//! Why a call of the flusher fails.
 
 use iol_disk::DiskFault;
 use iol_journal::Batch;
 use thiserror::Error;
 
-/// Why a batch is not brought on.
+/// Why a disk step or the publishing of a batch fails.
 #[derive(Clone, Copy, Debug, PartialEq, Eq, Error)]
 pub enum FlushFault {
-    /// A disk call has failed before.
+    /// An earlier disk call failed.
     #[error("the disk has failed before")]
     Stopped,
-    /// Out of memory. Nothing changed, and the same call may be made again.
+    /// Out of memory. Nothing changed, and the call may be repeated.
     #[error("out of memory")]
     Memory,
     /// The batch does not follow the journal, has more than 64 commands, or takes more slots than an area has. Nothing
     /// changed.
     #[error("the batch does not follow the journal")]
     Misfit,
-    /// This call of the disk failed.
+    /// This disk call failed.
     #[error("a call of the disk failed")]
     Disk(DiskFault),
 }
 
-/// Why a batch is not taken.
+/// Why a batch is not accepted.
 #[derive(Debug, Drop)]
 pub enum GiveFault {
-    /// A disk call has failed before. The batch comes back.
+    /// An earlier disk call failed. The batch is returned.
     Stopped(Batch),
 }

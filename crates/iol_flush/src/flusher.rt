@@ -18,8 +18,8 @@ use iol_front::{Committed, Name, Publisher};
 use iol_journal::{Batch, Journal, MOST_RECORD_OCTETS, Written};
 use std::marker::Model;
 
-/// What brings batches to the disk and publishes them. A contract sees the record `FlusherView` of `specs/Stages.antt`:
-/// how far it is, and the list that is published.
+/// Writes batches to the disk and publishes them. Contracts see it as the record `FlusherView` of `specs/Stages.antt`: its stage,
+/// and the published list.
 pub struct Flusher<D: SectorDisk, F: Name> {
     stage: FlushStage<D>,
     publisher: Publisher<F>,
@@ -35,22 +35,22 @@ impl<D: SectorDisk, F: Name> Model for Flusher<D, F> {
     ghost invariant = { λ f. IsInStep F.front.start f.stage f.publisher × HasFewCalls f.stage };
 }
 
-/// What a flusher had at its end.
+/// What a flusher returns when it ends.
 #[derive(Drop)]
 pub enum FlushEnd<D: SectorDisk, F: Name> {
-    /// The journal at rest, and the publisher, which lacks the last batch where that was still to be published. A checkpoint that
-    /// was begun is paused in the journal.
+    /// The journal at rest, and the publisher. A durable batch that was not published yet is missing from the publisher's list. A
+    /// checkpoint that was begun is paused in the journal.
     Closed(Journal<D>, Publisher<F>),
-    /// A batch was given and is not yet durable, or a checkpoint that cannot be paused is on its way. The disk may be recovered
+    /// A batch was given and is not yet durable, or a checkpoint that cannot be paused is being written. The disk may be recovered
     /// again.
     Midway(D),
-    /// A disk call had failed. A disk of which a sync has failed is not gone on with: many systems drop the pages of a
-    /// failed sync and answer the next with success. Behind another fault the disk may be recovered again.
+    /// A disk call failed. Stop using a disk after a failed sync: many systems drop the pages of a failed sync and report success
+    /// for the next one. After another fault the disk may be recovered again.
     Faulted(D, DiskFault),
 }
 
 impl<D: SectorDisk, F: Name> Flusher<D, F> {
-    /// The flusher of a journal and of the publisher of its list.
+    /// Creates a flusher from a journal and the publisher of its list.
     pub fn new(journal: Journal<D>, publisher: Publisher<F>) -> Flusher<D, F>
         requires list { HasHistory F.front.start publisher journal.history }
         ensures { result ≡ record { stage = stage.Resting journal; published = publisher } }
@@ -62,22 +62,22 @@ impl<D: SectorDisk, F: Name> Flusher<D, F> {
         }
     }
 
-    /// The call that it needs next.
+    /// Returns the call that the flusher needs next.
     pub fn needs(&self) -> Need
         ensures need { result ≡ need_of self.now.stage }
-        // The journal's list is the published one, and behind it the batch that is still to be published.
+        // The journal's list is the published list followed by the batch that is still to be published.
         ensures in_step { IsInStep F.front.start self.now.stage self.now.published }
         ensures few { HasFewCalls self.now.stage }
     {
         self.stage.needs()
     }
 
-    /// How many octets of records a batch that is given now may have: as many as fit the free slots of the journal at rest, and
-    /// one slot, 8,170, where none is free, or at another stage.
+    /// The number of record octets that a batch given now may have: the capacity of the free slots of the journal at rest, or of
+    /// one slot, 8,170, if none is free or at another stage.
     pub fn room(&self) -> usize
         ensures room { result ≡ room_of self.now.stage }
         ensures least { MOST_RECORD_OCTETS ≤ result }
-        // A batch of no more octets fits the area.
+        // A batch with at most this number of octets fits the area.
         ensures fits { FitsArea self.now.stage result }
     {
         match &self.stage {
@@ -93,17 +93,17 @@ impl<D: SectorDisk, F: Name> Flusher<D, F> {
         self.stage.disk_ref()
     }
 
-    /// How the disk has failed, if it has.
+    /// The fault of the disk call that failed, if one has.
     pub fn failed(&self) -> Option<DiskFault>
         ensures { result ≡ failure_of self.now.stage }
     {
         self.stage.failed()
     }
 
-    /// Takes a batch to the disk. No disk call is made yet.
+    /// Accepts a batch to be written. No disk call is made yet.
     ///
     /// # Errors
-    /// `Stopped` with the batch where a disk call has failed; nothing changes.
+    /// `Stopped` with the batch if a disk call has failed; nothing changes.
     pub fn give(&mut self, batch: Batch) -> Result<(), GiveFault>
         requires { (names_batch (need_of self.old.stage) ≡ true) ⊎ (need_of self.old.stage ≡ need.Stopped) }
         ensures gift { IsGift self.old.stage batch self.new.stage result }
@@ -112,8 +112,8 @@ impl<D: SectorDisk, F: Name> Flusher<D, F> {
         replace_with(&mut self.stage, batch, with_batch)
     }
 
-    /// Hands back the batch that was given, if no disk call was made for it: it may find no memory for long. The journal is then at
-    /// rest. It takes no memory.
+    /// Takes back the given batch if no disk call was made for it, for example because memory stays short. The journal is then at
+    /// rest. It allocates no memory.
     pub fn withdraw(&mut self) -> Option<Batch>
         ensures withdrawn { IsWithdrawn self.old.stage self.new.stage result }
         ensures published { self.new.published ≡ self.old.published }
@@ -121,30 +121,30 @@ impl<D: SectorDisk, F: Name> Flusher<D, F> {
         replace_with(&mut self.stage, (), without_batch)
     }
 
-    /// Makes the journal's next disk call: of the batch that was given or, where too few slots are free for it, of a checkpoint;
-    /// where no batch was given, of the checkpoint that is due, which is then paused until the next call.
+    /// Makes the journal's next disk call: of the given batch or, if too few slots are free for it, of a checkpoint. If no batch
+    /// was given, the call belongs to the checkpoint that is due, which is then paused, if possible, until the next call.
     ///
     /// # Errors
-    /// `Stopped` where a disk call has failed before; `Memory` where it is out of memory, and `Misfit` where the batch does
-    /// not follow the journal or is too large: nothing changes. `Disk` where this call fails.
+    /// `Stopped` if an earlier disk call failed, `Memory` if out of memory, and `Misfit` if the batch does not follow the journal
+    /// or is too large: nothing changes. `Disk` if this call fails.
     pub fn disk_step(&mut self) -> Result<(), FlushFault>
         requires { (names_disk (need_of self.old.stage) ≡ true) ⊎ (need_of self.old.stage ≡ need.Stopped) }
         ensures step { IsDiskStep D.disk self.old.stage self.new.stage result }
         ensures published { self.new.published ≡ self.old.published }
-        // What is then on its way has few disk calls.
+        // The batch or checkpoint that is then being written has few disk calls left.
         ensures few { HasFewCalls self.new.stage }
-        // Each run of the journal goes on: each image since a moment of it has all that was acknowledged by then.
+        // Each run of the journal continues: every image since a moment of the run has all commands acknowledged by then.
         ensures run { KeepsRun D.disk self.old.stage self.new.stage }
-        // Where each image was kept, each is kept still.
+        // If each image was kept before, each is still kept.
         ensures sound { IsSound D.disk self.old.stage → IsSound D.disk self.new.stage }
     {
         replace_with(&mut self.stage, (), make_call)
     }
 
-    /// Publishes the batch that is durable. It takes no memory.
+    /// Publishes the durable batch. It allocates no memory.
     ///
     /// # Errors
-    /// `Stopped` where a disk call has failed; nothing changes.
+    /// `Stopped` if a disk call has failed; nothing changes.
     pub fn publish(&mut self) -> Result<Committed<F>, FlushFault>
         requires { (need_of self.old.stage ≡ need.Publish) ⊎ (need_of self.old.stage ≡ need.Stopped) }
         ensures { IsPublished self.old self.new result }
@@ -155,7 +155,7 @@ impl<D: SectorDisk, F: Name> Flusher<D, F> {
         }
     }
 
-    /// Hands back what it holds.
+    /// Ends the flusher and returns what it holds.
     pub fn end(self) -> FlushEnd<D, F>
         ensures end { IsEnd self result }
         ensures in_step { IsInStep F.front.start self.stage self.published }
@@ -178,7 +178,7 @@ impl<D: SectorDisk, F: Name> Flusher<D, F> {
     }
 }
 
-// The stage after a batch is given.
+// Returns the stage after a batch is given, or refuses the batch if a disk call has failed.
 fn with_batch<D: SectorDisk>(
     stage: FlushStage<D>,
     batch: Batch,
@@ -198,7 +198,7 @@ fn with_batch<D: SectorDisk>(
     }
 }
 
-// The stage without the batch for which no disk call was made, and that batch.
+// Returns the stage without the batch for which no disk call was made, and that batch.
 fn without_batch<D: SectorDisk>(stage: FlushStage<D>, _call: ()) -> (FlushStage<D>, Option<Batch>)
     ensures { IsWithdrawn stage result.0 result.1 }
 {
@@ -208,7 +208,7 @@ fn without_batch<D: SectorDisk>(stage: FlushStage<D>, _call: ()) -> (FlushStage<
     }
 }
 
-// The stage without the batch that is durable, and that batch.
+// Returns the stage without the durable batch, and that batch.
 fn take_written<D: SectorDisk>(stage: FlushStage<D>, _call: ()) -> (FlushStage<D>, Option<Written>)
     requires { (need_of stage ≡ need.Publish) ⊎ (need_of stage ≡ need.Stopped) }
     ensures { HasGivenUp stage result.0 result.1 }

@@ -1,5 +1,6 @@
-//! Laws of a flusher, which no code calls: what it does to a run of its journal beside its disk calls, and how soon a batch
-//! is through. Proofs of other crates cite them from `proofs/RunLaws.antt` and `proofs/Turns.antt`, under the same names.
+//! Laws of a flusher, for proofs only: no code calls them. They say what a flusher does to a run of its journal apart from its disk
+//! calls, and how soon a batch is published. Proofs of other crates cite them from `proofs/RunLaws.antt` and `proofs/Turns.antt`,
+//! under the same names.
 
 ghost use Rattle.std.specs.Prelude.{◌≡◌, ◌≤◌, ◌<◌, ◌⊎◌, ℕ, ◌+◌, ◌*◌, true, false, List, ◌∷◌, ◌++◌, length, Result, Ok, None, is_some};
 ghost use Rattle.iol_types.specs.Command.{CommandValue};
@@ -22,7 +23,7 @@ ghost use Rattle.iol_flush.specs.declared.stage.FlushStage.TheVariants.{Resting}
 
 use iol_disk::SectorDisk;
 
-/// At a moment at which nothing more is acknowledged than at the one before, a run goes on.
+/// A run continues over a moment at which no more is acknowledged than at the moment before.
 pub fn marked_later<D: SectorDisk>()
     ensures { (number : ℕ) (state : State) (published waiting : List CommandValue) (mark : Mark) (marks : List Mark) (stage : FlushStage D)
         → IsFlushing D.disk number state published waiting (mark ∷ marks) stage
@@ -30,7 +31,7 @@ pub fn marked_later<D: SectorDisk>()
         (record { clock = clock (D.disk (disk_of stage)).content; acknowledged = mark.acknowledged } ∷ mark ∷ marks) stage }
 {}
 
-/// A batch that is given is the first of the commands that wait.
+/// A run continues if the given batch is the first of the waiting commands.
 pub fn gives<D: SectorDisk>()
     ensures { (number : ℕ) (state : State) (published waiting : List CommandValue) (marks : List Mark) (old new : FlushStage D)
         (batch : Batch)
@@ -38,7 +39,7 @@ pub fn gives<D: SectorDisk>()
         → IsFlushing D.disk number state published waiting marks old → IsFlushing D.disk number state published waiting marks new }
 {}
 
-/// The batch that is published was the first of the commands that wait, and waits no more.
+/// A published batch was the first of the waiting commands, and is then removed from them.
 pub fn publishes<D: SectorDisk>()
     ensures { (number : ℕ) (state : State) (published waiting : List CommandValue) (marks : List Mark) (old : FlushStage D)
         (list : List CommandValue)
@@ -48,14 +49,14 @@ pub fn publishes<D: SectorDisk>()
         × IsFlushing D.disk number state (published ++ committed.commands) behind marks new.stage }
 {}
 
-/// Each image since a moment has what was acknowledged by then, and behind it none but the next commands, in their order.
+/// Every image since a moment has all commands acknowledged by then, and after them only the next ones, in order.
 pub fn holds<D: SectorDisk>()
     ensures { (number : ℕ) (state : State) (published waiting : List CommandValue) (marks : List Mark) (stage : FlushStage D)
         → IsFlushing D.disk number state published waiting marks stage
         → HoldsBy (D.disk (disk_of stage)) number state (published ++ waiting) marks }
 {}
 
-/// More commands may wait, each of which passes in the state that it meets.
+/// Commands may be added to the waiting ones if each passes in the state that it meets.
 pub fn accepts_more<D: SectorDisk>()
     ensures { (number : ℕ) (state : State) (published waiting : List CommandValue) (marks : List Mark) (stage : FlushStage D)
         (commands : List CommandValue)
@@ -64,7 +65,7 @@ pub fn accepts_more<D: SectorDisk>()
         → IsFlushing D.disk number state published (waiting ++ commands) marks stage }
 {}
 
-/// What is published may be acknowledged while the journal is at rest.
+/// Published commands may be acknowledged while the journal is at rest.
 pub fn acknowledges<D: SectorDisk>()
     ensures { (number : ℕ) (state : State) (published waiting : List CommandValue) (marks : List Mark) (acknowledged : ℕ)
         (j : JournalView D)
@@ -74,24 +75,24 @@ pub fn acknowledges<D: SectorDisk>()
         (record { clock = clock (D.disk j.disk).content; acknowledged = acknowledged } ∷ marks) (Resting j) }
 {}
 
-/// Each disk call that is made for a batch leaves fewer calls until the batch is through.
+/// Each disk call made for a batch reduces the number of calls that the batch still needs.
 pub fn advances<D: SectorDisk>()
     ensures { (old new : FlushStage D) → 1 ≤ calls_needed old → HasFewCalls old → HasFewCalls new → IsDiskStep D.disk old new (Ok tt)
         → calls_needed new + 1 ≤ calls_needed old }
 {}
 
-/// A batch that goes on where the journal stands is not refused for what it is.
+/// A batch that follows the journal and is not too large is never refused as `Misfit`.
 pub fn is_fit<D: SectorDisk>()
     ensures { (stage : FlushStage D) → GoesOn stage → IsUnfit stage → ⊥ }
 {}
 
-/// After a disk call the batch that is still to be begun goes on where the journal stands.
+/// After a disk call, a batch that is still to be begun follows the journal.
 pub fn goes_on<D: SectorDisk>()
     ensures { (old new : FlushStage D) (answer : Result Unit FlushFault) → IsDiskStep D.disk old new answer → GoesOn old → GoesOn new }
 {}
 
-/// While the journal rests a disk call is named beside the batch exactly where a checkpoint is paused, or half of the slots are used;
-/// and alone exactly where its layout is an older one.
+/// While the journal is at rest in the newest layout, the flusher needs a batch, or also a disk call exactly if a checkpoint is
+/// paused or half of the slots are used. It needs only a disk call exactly if the layout is an older one.
 pub fn due_at_half<D: SectorDisk>()
     ensures batch { (j : JournalView D) → need_of (Resting j) ≡ need.Batch → is_renewed j.standing.layout ≡ true
         → (j.begun ≡ None) × (2 * j.standing.used < j.standing.layout.slots) }

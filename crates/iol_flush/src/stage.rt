@@ -1,4 +1,4 @@
-//! How far a flusher is.
+//! The stages of a flusher.
 
 ghost use Rattle.std.specs.Prelude.{◌≡◌};
 ghost use Rattle.iol_flush.specs.Stages.{is_due, need_of, disk_of, failure_of};
@@ -8,27 +8,27 @@ use crate::need::Need;
 use iol_disk::{DiskFault, SectorDisk};
 use iol_journal::{Batch, Checkpointing, Journal, Writing, Written};
 
-/// How far a flusher is with a batch.
+/// How far a flusher is with a batch or a checkpoint.
 pub enum FlushStage<D: SectorDisk> {
-    /// All that was given is published. A checkpoint may be paused.
+    /// All given batches are published. A checkpoint may be paused.
     Resting(Journal<D>),
-    /// A checkpoint that cannot be paused is on its way, as it writes another layout, or the gate of the other area is written. No
-    /// batch waits.
+    /// A checkpoint that cannot be paused is being written, because it writes another layout or the gate of the other area is
+    /// written. No batch waits.
     Opening(Checkpointing<D>),
-    /// A batch was given, and no disk call of it is made yet.
+    /// A batch was given, and none of its disk calls is made yet.
     Given(Journal<D>, Batch),
-    /// Too few slots were free for the batch: a checkpoint is on its way.
+    /// Too few slots were free for the batch, so a checkpoint is being written first.
     Checkpointing(Checkpointing<D>, Batch),
-    /// The batch is on its way.
+    /// The batch is being written.
     Writing(Writing<D>),
-    /// The batch is durable, and not yet published.
+    /// The batch is durable but not yet published.
     Publishing(Journal<D>, Written),
     /// A disk call has failed.
     Failed(D, DiskFault),
 }
 
 impl<D: SectorDisk> FlushStage<D> {
-    // What it needs next.
+    // Returns the call that is needed next.
     pub(crate) fn needs(&self) -> Need
         ensures { result ≡ need_of self.now }
     {
@@ -57,7 +57,7 @@ impl<D: SectorDisk> FlushStage<D> {
         }
     }
 
-    // How the disk has failed, if it has.
+    // The fault of the disk call that failed, if one has.
     pub(crate) fn failed(&self) -> Option<DiskFault>
         ensures { result ≡ failure_of self.now }
     {
@@ -68,7 +68,7 @@ impl<D: SectorDisk> FlushStage<D> {
     }
 }
 
-// What is needed while the journal rests.
+// Returns the call that is needed while the journal is at rest.
 fn need_at_rest<D: SectorDisk>(journal: &Journal<D>) -> Need
     ensures { result ≡ need_of (Resting journal.now) }
 {
@@ -81,8 +81,8 @@ fn need_at_rest<D: SectorDisk>(journal: &Journal<D>) -> Need
     }
 }
 
-// Whether a checkpoint is to be begun, as the layout is an older one or half of the slots are used, or gone on with, as one is
-// paused.
+// Whether a checkpoint is due: one is paused and must continue, or a new one must begin because the layout is an older one or half
+// of the slots are used.
 fn is_due<D: SectorDisk>(journal: &Journal<D>) -> bool
     ensures { result ≡ is_due journal.now }
 {

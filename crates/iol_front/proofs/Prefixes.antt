@@ -1,4 +1,4 @@
--- Lists that begin others.
+-- Lists that are prefixes of others.
 use Rattle.std.proofs.Common.{◌∙◌, List, [], ◌++◌, refl, sym, ap, append-nil, append_assoc}
 use mathlib.Core.List.{IsPrefix}
 

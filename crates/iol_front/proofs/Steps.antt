@@ -30,7 +30,7 @@ so_set : (st : Start) (all : List CommandValue) (who : ℕ) (views : List SeatVi
 so_set st all who views id w others mine seat v e =
     ⊎_elim (λ t. so_here st all who id seat w v t.0 t.1 mine) (λ t. others seat v t.0 t.1) (at_set views id seat w v e)
 
--- the first state keeps the rule
+-- the first state satisfies the rule
 pub begins : {S : Type 0} (st : Start) → st.number ≤ LAST_NUMBER → CountsList {S = S} st (opening (st.number ∷ []) [] (publisher st []))
 begins st low = record {
   all = [];

@@ -1,4 +1,4 @@
--- Which front it is, and a batch in its list.
+-- Which front is meant, and a batch in its list.
 use Rattle.std.specs.Prelude.{ℕ, List, []}
 use Rattle.atomic_table.specs.Seated.{TableId}
 use Rattle.iol_types.specs.Command.{CommandValue}
@@ -9,12 +9,12 @@ pub record Start : Type 0 where
   pub number : ℕ
   pub state : State
 
--- which front it is: the table that its word lies in, and its start (own)
+-- which front is meant: the table that has its word, and its start (own)
 pub record FrontId : Type 0 where
   pub table : TableId
   pub start : Start
 
--- what a program names where it has no front yet (own)
+-- the front that a program names before it has one (own)
 abbrev pub no_front : FrontId
 no_front = record {
   table = record { words = 0; slots = 0; views_name = 0; atom = 0; block = 0; offset = 0; slot_names = [] };

@@ -1,4 +1,4 @@
--- The rule of the one word of a front, and what each step tells the seat that makes it.
+-- The rule of the one word of a front, and what each step reports to the seat that makes it.
 use Rattle.std.specs.Prelude.{◌≡◌, ℕ, ◌+◌, ◌≤◌, true, List, [], ◌∷◌, ◌++◌, length}
 use mathlib.Core.Option.{Option, some, none}
 use mathlib.Core.List.{IsPrefix}
@@ -11,15 +11,15 @@ use Rattle.iol_journal.specs.Numbers.{LAST_NUMBER}
 use Rattle.iol_front.specs.Fronts.{Start}
 use Rattle.iol_front.specs.Seats.{SeatView, silent}
 
--- what a seat says is so: what it has seen and what it was told of are beginnings of the whole list; and where it is the
--- publisher's it has seen all, and no other is (own)
+-- what a seat says is true: what it has seen and what was reported to it are prefixes of the whole list; the
+-- publisher's seat has seen the whole list, and no other seat is the publisher's (own)
 abbrev pub IsSo : Start → List CommandValue → ℕ → ℕ → SeatView → Type 0
 IsSo start all publisher seat v =
     v.says ≡ true
     → (v.start ≡ start) × IsPrefix v.seen all × IsPrefix v.told all × (v.publishes ≡ true → (v.seen ≡ all) × (seat ≡ publisher))
 
--- the word counts the list: it is the start number and how many commands are published, 2^62 at most; and what each seat
--- says is so (own)
+-- the word counts the list: it is the start number plus the number of published commands, at most 2^62; and what each
+-- seat says is true (own)
 pub record CountsList {S : Type 0} (start : Start) (s : table.State S SeatView) : Type 0 where
   pub all : List CommandValue
   pub publisher : ℕ
@@ -27,13 +27,13 @@ pub record CountsList {S : Type 0} (start : Start) (s : table.State S SeatView) 
   pub bound : start.number + length all ≤ LAST_NUMBER
   pub seats : (seat : ℕ) (v : SeatView) → get_elem? s.views seat ≡ some v → IsSo start all publisher seat v
 
--- a look: the seat has seen a list that begins with all that it had seen, and with all that it was told of, and found
--- how many commands it has (own)
+-- a look: the seat has then seen a list that begins with what it had seen and with what was reported to it, and it has
+-- found the start number plus the number of commands in that list (own)
 pub record LooksAt (v : SeatView) (found : ℕ) (w : SeatView) : Type 0 where
   pub same : w ≡ record { says = v.says; publishes = v.publishes; start = v.start; seen = w.seen; told = [] }
   pub seen : IsPrefix v.seen w.seen
   pub told : IsPrefix v.told w.seen
-  -- the publisher had seen all
+  -- the publisher had seen the whole list
   pub whole : v.publishes ≡ true → w.seen ≡ v.seen
   pub count : found ≡ v.start.number + length w.seen
   pub bound : found ≤ LAST_NUMBER
@@ -47,7 +47,7 @@ abbrev pub passed : Option Batch → List CommandValue
 passed (some batch) = values batch.commands.items
 passed none = []
 
--- the seat has these commands behind what it had seen (own)
+-- the seat has seen these commands in addition, after those that it had seen (own)
 abbrev pub Grows : SeatView → List CommandValue → SeatView → Type 0
 Grows v commands w = w ≡ record { says = v.says; publishes = v.publishes; start = v.start; seen = v.seen ++ commands; told = v.told }
 

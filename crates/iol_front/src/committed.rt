@@ -47,7 +47,7 @@ impl<F: Name> Model for Committed<F> {
 }
 
 impl<F: Name> Committed<F> {
-    // The batch that a seat has seen last.
+    // Makes a committed batch of the batch that a seat has seen last.
     pub(crate) fn at(batch: Batch, seat: FrontSeat) -> Committed<F>
         requires table { seat.table_id ≡ F.front.table }
         requires seat { seat.me
@@ -66,7 +66,7 @@ impl<F: Name> Committed<F> {
         }
     }
 
-    /// The number of its first command.
+    /// The number of the first command of the batch.
     pub fn first(&self) -> u64
         ensures first { result ≡ F.front.start.number + length self.now.before + 1 }
         ensures bound { result + length self.now.commands ≤ LAST_NUMBER + 1 }
@@ -74,7 +74,7 @@ impl<F: Name> Committed<F> {
         self.batch.first
     }
 
-    /// How many commands it has.
+    /// The number of commands of the batch.
     pub fn len(&self) -> usize
         ensures { result ≡ length self.now.commands }
     {
@@ -89,7 +89,7 @@ impl<F: Name> Committed<F> {
         self.batch.commands.get(i)
     }
 
-    /// Shows the batch to a pass: from then on the pass has seen it. It takes no memory.
+    /// Shows the batch to a pass: from then on the pass has seen it. It allocates no memory.
     pub fn show(&mut self, pass: &mut Pass<F>)
         ensures same { self.new ≡ self.old }
         ensures kept { IsPrefix pass.old pass.new }

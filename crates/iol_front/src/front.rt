@@ -40,11 +40,11 @@ impl Model for Front {
 }
 
 impl Front {
-    /// A front that starts with this number, 0 to [`LAST_NUMBER`](iol_journal::LAST_NUMBER), and this state, with
-    /// nothing published yet. The state is not kept: contracts alone see it.
+    /// Makes a front that starts with this number, 0 to [`LAST_NUMBER`](iol_journal::LAST_NUMBER), and this state, with
+    /// nothing published yet. The state is not kept: only contracts see it.
     ///
     /// # Errors
-    /// Memory ran out.
+    /// `AllocError` if out of memory.
     pub fn new(alloc: Global, start: u64, state: &MasterState) -> Result<Front, AllocError>
         requires { start ≤ LAST_NUMBER }
         ensures { IfOk result (λ front. front.start ≡ record { number = start; state = state.now }) }
@@ -62,7 +62,7 @@ impl Front {
         })
     }
 
-    /// The publisher of this front, under the front's name. It takes no memory.
+    /// The publisher of this front, under the front's name. It allocates no memory.
     pub fn publisher<F: Name>(self) -> Publisher<F>
         requires { self ≡ F.front }
         ensures { result ≡ [] }

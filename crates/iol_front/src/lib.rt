@@ -1,17 +1,17 @@
-//! A durable front: one atomic word, by which everyone knows how far commands are durable.
+//! A durable front: one atomic word, from which everyone reads how far commands are durable.
 //!
-//! In come batches that are written ([`Written`](iol_journal::Written)), and out go passes that have seen a beginning of
-//! their list. [`Front::new`] makes a front, and [`Front::publisher`] its [`Publisher`] under a [`Name`]; it alone puts a
-//! batch behind the list, and gives a [`Committed`] for it. A [`Pass`] knows how many commands it has seen; it may look
-//! at the word at any time, in any thread, and waits for nobody. Where two passes meet, what the one has seen begins
-//! what the other has.
+//! Written batches ([`Written`](iol_journal::Written)) come in, and passes that have seen a prefix of their list go
+//! out. [`Front::new`] makes a front, and [`Front::publisher`] its [`Publisher`] under a [`Name`]; only the publisher
+//! appends a batch to the list, and it returns a [`Committed`] for it. A [`Pass`] knows how many commands it has seen;
+//! it may look at the word at any time, in any thread, without waiting. When two passes meet, what one has seen is a
+//! prefix of what the other has seen.
 //!
-//! The word is the start number and how many commands are published. The list itself lies nowhere: contracts alone
-//! see it.
+//! The word is the start number plus the number of commands that are published. The list itself is ghost state: only
+//! contracts see it.
 //!
 //! Modules in reading order: `name`, which front is meant; `seat`, the word and the five kinds of step on it; `front`,
-//! `publisher`, `pass` and `committed`. What is known at a seat is said in `specs/Seats.antt`, and the rule of the word
-//! in `specs/Rule.antt`.
+//! `publisher`, `pass` and `committed`. `specs/Seats.antt` says what is known at a seat, and `specs/Rule.antt` has the
+//! rule of the word.
 #![tactic(auto)]
 
 mod committed;

@@ -2,8 +2,8 @@
 
 use std::marker::Brand;
 
-/// Names one front in the types over it: values of one name are of one front. A function that makes a front picks its
-/// name at the call of the function that uses it, as [`Brand`].
+/// Names one front in the types over it: values of one name belong to one front. A function that makes a front picks
+/// its name when it calls the function that uses the front, as [`Brand`].
 pub trait Name: Send + Sync {
     ghost use Rattle.iol_front.specs.Fronts.{FrontId};
 

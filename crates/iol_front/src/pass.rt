@@ -1,4 +1,4 @@
-//! What has seen a beginning of the list.
+//! A pass, which has seen a prefix of the list.
 
 ghost use Rattle.std.specs.Prelude.{◌≡◌, ◌+◌, ◌≤◌, true, [], length, IfOk};
 ghost use mathlib.Core.List.{IsPrefix};
@@ -12,7 +12,7 @@ use std::alloc::{AllocError, Global};
 use std::marker::{Model, PhantomData};
 use std::sync::Arc;
 
-/// It has seen a beginning of the list, and counts it. Contracts see it as that beginning.
+/// A pass has seen a prefix of the list, and counts its commands. Contracts see it as that prefix.
 #[derive(Drop)]
 pub struct Pass<F: Name> {
     board: Arc<Board, Global>,
@@ -39,7 +39,7 @@ impl<F: Name> Model for Pass<F> {
 }
 
 impl<F: Name> Pass<F> {
-    // At the table of its front, with a seat that has seen as much as this number says.
+    // Makes a pass at the table of its front, with a seat that has seen the commands up to this number.
     pub(crate) fn at(board: Arc<Board, Global>, seat: FrontSeat, number: u64) -> Pass<F>
         requires table { ((arc_value board).shared.table_id ≡ F.front.table) × (F.front.table.words ≡ 1) × (seat.table_id ≡ F.front.table) }
         requires seat { seat.me ≡ (reader F.front.start seat.me.0.seen, []) }
@@ -63,8 +63,8 @@ impl<F: Name> Pass<F> {
         self.number
     }
 
-    /// Sees how many commands are published, and answers the number of the last one. It waits for nobody, and takes no
-    /// memory.
+    /// Reads how many commands are published, and returns the number of the last one. It does not wait, and allocates
+    /// no memory.
     pub fn look(&mut self) -> u64
         ensures kept { IsPrefix self.old self.new }
         ensures count { result ≡ F.front.start.number + length self.new }
@@ -74,10 +74,10 @@ impl<F: Name> Pass<F> {
         self.number
     }
 
-    /// A pass that has seen as much.
+    /// Makes another pass that has seen the same commands.
     ///
     /// # Errors
-    /// Memory ran out, or the front has as many passes as can be counted; this pass is as it was.
+    /// `AllocError` if out of memory, or if the front has as many passes as can be counted; this pass stays as it was.
     pub fn another(&mut self) -> Result<Pass<F>, AllocError>
         ensures same { self.new ≡ self.old }
         ensures pass { IfOk result (λ pass. pass ≡ self.old) }
@@ -87,8 +87,8 @@ impl<F: Name> Pass<F> {
         Ok(Pass::at(board, seat, self.number))
     }
 
-    /// Both look, the other first. What each has seen then begins with what either had seen before, and what the other
-    /// has seen begins what this pass has.
+    /// Both passes look, the other first. What each has seen then begins with what either had seen before, and what the
+    /// other has seen is a prefix of what this pass has seen.
     pub fn meet(&mut self, other: &mut Pass<F>)
         ensures kept { IsPrefix self.old self.new }
         ensures given { IsPrefix other.old other.new }
@@ -99,7 +99,7 @@ impl<F: Name> Pass<F> {
         self.learn(&mut other.seat);
     }
 
-    // A seat that tells what this pass has seen.
+    // Makes a seat that reports what this pass has seen.
     pub(crate) fn told(&mut self) -> FrontSeat
         ensures same { self.new ≡ self.old }
         ensures told { (result.table_id ≡ F.front.table) × (result.me ≡ (reader F.front.start self.old, [])) }
@@ -107,7 +107,7 @@ impl<F: Name> Pass<F> {
         split_off(&self.board, &mut self.seat)
     }
 
-    // Is told what a seat of the same front has seen, and looks.
+    // Takes over what a seat of the same front has seen, and looks.
     pub(crate) fn learn(&mut self, seat: &mut FrontSeat)
         requires table { seat.old.table_id ≡ F.front.table }
         requires says { (seat.old.me.0.says ≡ true) × (seat.old.me.1 ≡ []) }

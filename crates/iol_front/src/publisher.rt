@@ -15,7 +15,7 @@ use std::alloc::{AllocError, Global};
 use std::marker::{Model, PhantomData};
 use std::sync::Arc;
 
-/// It alone puts batches behind the list, and cannot be copied. Contracts see it as the whole list.
+/// Only the publisher appends batches to the list, and it cannot be copied. Contracts see it as the whole list.
 #[derive(Drop)]
 pub struct Publisher<F: Name> {
     board: Arc<Board, Global>,
@@ -42,7 +42,7 @@ impl<F: Name> Model for Publisher<F> {
 }
 
 impl<F: Name> Publisher<F> {
-    // At the table of its front, with nothing published.
+    // Makes a publisher at the table of its front, with nothing published.
     pub(crate) fn first(board: Arc<Board, Global>, seat: FrontSeat, number: u64) -> Publisher<F>
         requires table { ((arc_value board).shared.table_id ≡ F.front.table) × (F.front.table.words ≡ 1) × (seat.table_id ≡ F.front.table) }
         requires seat { seat.me ≡ (publisher F.front.start [], []) }
@@ -65,10 +65,11 @@ impl<F: Name> Publisher<F> {
         self.number
     }
 
-    /// A pass that has seen the whole list.
+    /// Makes a pass that has seen the whole list.
     ///
     /// # Errors
-    /// Memory ran out, or the front has as many passes as can be counted; the publisher is as it was.
+    /// `AllocError` if out of memory, or if the front has as many passes as can be counted; the publisher stays as it
+    /// was.
     pub fn pass(&mut self) -> Result<Pass<F>, AllocError>
         ensures same { self.new ≡ self.old }
         ensures pass { IfOk result (λ pass. pass ≡ self.old) }
@@ -78,7 +79,8 @@ impl<F: Name> Publisher<F> {
         Ok(Pass::at(board, seat, self.number))
     }
 
-    /// Every pass has seen a beginning of the list. Nothing changes: it is for proofs, and costs three steps on the word.
+    /// States that what a pass has seen is a prefix of the list. Nothing changes: it is for proofs, and costs three
+    /// steps on the word.
     pub fn covers(&mut self, pass: &mut Pass<F>)
         ensures same { (self.new ≡ self.old) × (pass.new ≡ pass.old) }
         ensures begins { IsPrefix pass.old self.old }
@@ -88,7 +90,7 @@ impl<F: Name> Publisher<F> {
         look_at(&self.board, &mut self.seat);
     }
 
-    /// Puts a batch that is durable behind the list, all at once. It takes no memory.
+    /// Appends a batch that is durable to the list, all at once. It allocates no memory.
     pub fn publish(&mut self, written: Written) -> Committed<F>
         requires { written.first ≡ F.front.start.number + length self.old + 1 }
         ensures list { self.new ≡ self.old ++ written.commands }

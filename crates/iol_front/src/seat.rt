@@ -1,4 +1,4 @@
-//! The word, its rule, and the five kinds of step that a seat makes on it.
+//! The word, its rule, and the five kinds of step that a seat makes on the word.
 
 ghost use Rattle.std.specs.Prelude.{◌≡◌, ◌+◌, ◌≤◌, true, [], length};
 ghost use Rattle.iol_journal.specs.Body.{values};
@@ -13,7 +13,7 @@ use std::alloc::Global;
 use std::marker::Model;
 use std::snapshot::Snapshot;
 
-// What a seat knows. No value of it is made: contracts alone see it.
+// What a seat knows. No value of this type is made: it is ghost state, which only contracts see.
 pub struct View;
 
 impl Model for View {
@@ -44,7 +44,7 @@ impl TableRule<Batch, View, Opening> for Law {
     ghost first = { λ k. publisher (record { number = k.number; state = k.state.value }) [] };
 }
 
-// A seat is cut in two, or takes in another.
+// A step that splits a seat in two, or joins another one to it.
 pub struct Share;
 
 impl Split<View> for Share {
@@ -72,7 +72,7 @@ impl Play<Batch, View> for Look {
     ghost then = { Looked };
 }
 
-// A step that puts a batch behind the list.
+// A step that appends a batch to the list.
 pub struct AddBatch;
 
 impl Play<Batch, View> for AddBatch {
@@ -93,10 +93,10 @@ impl Play<Batch, View> for Retire {
 // The table of the word.
 pub type Board = Table<Batch, View, Opening, Law, Global>;
 
-// A seat at it.
+// A seat at the table.
 pub type FrontSeat = Seat<Batch, View>;
 
-// Makes a seat that has seen as much.
+// Makes another seat that has seen the same commands.
 pub(crate) fn split_off(board: &Board, seat: &mut FrontSeat) -> FrontSeat
     requires place { (seat.old.table_id ≡ board.now.shared.table_id) × (board.now.shared.table_id.words ≡ 1) }
     ensures same { (seat.new.table_id ≡ seat.old.table_id) × (seat.new.me ≡ seat.old.me) }
@@ -105,7 +105,7 @@ pub(crate) fn split_off(board: &Board, seat: &mut FrontSeat) -> FrontSeat
     board.shared.split_seat::<Share>(seat)
 }
 
-// Takes in a seat, and is told what that one has seen.
+// Joins another seat, and takes over what that one has seen.
 pub(crate) fn take_in(board: &Board, seat: &mut FrontSeat, other: FrontSeat)
     requires place { (seat.old.table_id ≡ board.now.shared.table_id) × (other.table_id ≡ board.now.shared.table_id)
         × (board.now.shared.table_id.words ≡ 1) }
@@ -116,7 +116,7 @@ pub(crate) fn take_in(board: &Board, seat: &mut FrontSeat, other: FrontSeat)
     board.shared.join_seat::<Share>(seat, other);
 }
 
-// Sees how many commands are published.
+// Reads the word: the start number plus the number of published commands.
 pub(crate) fn look_at(board: &Board, seat: &mut FrontSeat) -> u64
     requires place { (seat.old.table_id ≡ board.now.shared.table_id) × (board.now.shared.table_id.words ≡ 1) }
     requires says { (seat.old.me.0.says ≡ true) × (seat.old.me.1 ≡ []) }
@@ -126,7 +126,7 @@ pub(crate) fn look_at(board: &Board, seat: &mut FrontSeat) -> u64
     board.shared.load::<Look>(seat, 0)
 }
 
-// Puts a batch behind the whole list.
+// Appends a batch to the whole list.
 pub(crate) fn add_batch(board: &Board, seat: &mut FrontSeat, count: u64, batch: &Batch) -> u64
     requires place { (seat.old.table_id ≡ board.now.shared.table_id) × (board.now.shared.table_id.words ≡ 1) }
     requires owns { (seat.old.me.0.says ≡ true) × (seat.old.me.0.publishes ≡ true) × (seat.old.me.1 ≡ []) }

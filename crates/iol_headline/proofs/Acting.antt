@@ -1,4 +1,4 @@
--- A port acts: what it tells, and what holds then.
+-- A port acts: what it reports, and what holds then.
 use Rattle.std.proofs.Common.{◌≡◌, inl, inr, refl, ℕ, Bool, List, [], ◌∷◌, ◌++◌, sym, ap, ◌∙◌, subst}
 use Rattle.std.specs.Prelude.{Option, Some, None, Result}
 use Rattle.iol_types.specs.State.{State}
@@ -44,7 +44,7 @@ module _ {L : Type 0} (number : L → ℕ) (steps : L → LinkCall → LinkAnswe
   abbrev Leads : List Event → Stage → Stage → Type 0
   Leads called was stage = Goes first start port (number link) events clock called (status_of was) stage
 
-  -- what is told at a stage
+  -- what is reported at a stage
   abbrev IsTold : Stage → Type 0
   IsTold stage = Told first start port (number link) events stage
 
@@ -61,17 +61,17 @@ module _ {L : Type 0} (number : L → ℕ) (steps : L → LinkCall → LinkAnswe
   rests : (called : List Event) (was : PortStatus) (own : Rest) → Goes first start port (number link) events clock called was (Settled own)
   rests called was own = settles first start port (number link) events clock called was own
 
-  -- the machine goes on, or starts
+  -- the machine continues, or starts
   moves : (called : List Event) (was : PortStatus) (value : PortValue) (next : Next)
       → NextGoes first start port (number link) events clock called was next
       → Goes first start port (number link) events clock called was (moved value next).stage
   moves called was value next goes = moved_goes first start port (number link) events clock called was value next goes
 
-  -- what was told is this
+  -- the reported events are these
   by_called : (called is : List Event) (was stage : Stage) → called ≡ is → Leads is was stage → Leads called was stage
   by_called called is was stage same goes = subst (λ (es : List Event). Leads es was stage) (sym same) goes
 
-  -- the stage behind what was heard
+  -- the stage after an input
   abbrev After : Option ℕ → Bool → Stage → Input → Stage
   After started requested stage heard = (fed (machine started requested (after_action stage)) heard).stage
 
@@ -167,7 +167,7 @@ module _ {L : Type 0} (number : L → ℕ) (steps : L → LinkCall → LinkAnswe
       (stays called (Breaking (held.Upload grant) fault.Memory) tt)
   out_goes was heard later called out = absurd out
 
-  -- what holds of a machine behind what it heard
+  -- what holds of a machine after an input
   pub fed_goes : (value later : PortValue) (heard : Input) (called : List Event) → value.port ≡ port → IsTold value.stage
       → IsAtHand value.stage
       → ComesOf (wanted value.port value.stage) heard

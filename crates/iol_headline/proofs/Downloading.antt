@@ -1,4 +1,4 @@
--- A port downloads: what is told.
+-- A port downloads: what is reported.
 use Rattle.std.proofs.Common.{◌≡◌, inl, inr, refl, ℕ, List, [], ◌∷◌}
 use Rattle.std.proofs.Common.{◌++◌, sym, ap, ◌∙◌, subst, lit<, append_assoc, append-nil}
 use Rattle.std.specs.Prelude.{Option, Some, None, IsSomeAnd, IfOk, Result, Ok, Err}
@@ -44,7 +44,7 @@ use Rattle.iol_headline.proofs.Stages.{Begins, Downloads, Told}
 use Rattle.iol_headline.proofs.Talks.{talk_more, own_more}
 use Rattle.iol_headline.specs.Conversations.{Converses}
 
--- words that are apart
+-- statuses that differ
 downloading_starts : status.Downloading ≡ status.Starting → ⊥
 downloading_starts same = cc
 
@@ -56,11 +56,11 @@ module _ (first : ℕ) (start : State) (port connection : ℕ) (events : List St
   abbrev exchanged : List ℕ → List ℕ → List Event
   exchanged octets back = trace.Exchange port connection octets back ∷ []
 
-  -- the events with those that a step tells
+  -- the events with those of a step
   abbrev behind : List Event → List Stamp
   behind called = events ++ stamped clock called
 
-  -- where a step leads that tells this
+  -- the stage after a step that reports this
   abbrev Leads : List Event → PortStatus → Stage → Type 0
   Leads called was stage = Goes first start port connection events clock called was stage
 

@@ -1,4 +1,4 @@
--- What an engine has told is lawful.
+-- What an engine has reported is lawful.
 use Rattle.iol_front.specs.Fronts.{Start}
 use Rattle.iol_engine.proofs.Engines.{engine_runs}
 use Rattle.iol_engine.specs.Engine.{EngineView, IsEngine, any_steps, itself, trace_of}

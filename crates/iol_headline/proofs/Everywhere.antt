@@ -1,4 +1,4 @@
--- What a run tells is lawful.
+-- What a run reports is lawful.
 use Rattle.std.proofs.Common.{◌≡◌, ◌⊎◌, inl, inr, ◌<◌, ◌+◌, refl, ℕ, zero, suc, Bool, true, false, nat_lt, List, [], ◌∷◌, length}
 use Rattle.std.proofs.Common.{Some, slice_get, take, sym, ap, ◌∙◌, subst, arith}
 use Rattle.std.proofs.lemmas.Bool.Decides.{nat_tests}
@@ -36,7 +36,7 @@ placed count (suc place) = by (nat_lt place count) refl
     by false beyond = inr (inr (grind (arith, nat_tests, beyond)))
 
 module _ (first : ℕ) (start : State) where
-  -- an event is lawful where it is so as one of a port's own, whichever the port
+  -- an event is lawful if it is lawful as one of a port's own, whichever the port
   owned : (before : List Stamp) (e : Event) → ((port : ℕ) → OwnLaw first start port before e) → IsLawfulAt first start before e
   owned before (Accepted number (Configure port config)) law =
       unsent_lawful first start before (Accepted number (Configure port config)) (λ p c r sent. sent) tt tt tt tt
@@ -61,7 +61,7 @@ module _ (first : ℕ) (start : State) where
       (port.0, at_place start (place + 1) (omega arith) ∙ (ap (slice_get start) (omega arith) ∙ port.1))
 
   module _ {L : Type 0} (number : L → ℕ) (steps : L → LinkCall → LinkAnswer → L → Type 0) where
-    -- what is told of a port that has a link
+    -- what is reported of a port that has a link
     ported : (place made : ℕ) (begun link : L) (events : List Stamp) → place < length start
         → HasPortRun number steps first start (place + 1) made begun link events → Everywhere (OwnLaw first start (place + 1)) events
     ported place made begun link events within is =

@@ -28,7 +28,7 @@ octets_of answer = []
 abbrev pub octets_in : Exchange → List ℕ
 octets_in exchange = octets_of exchange.answer
 
--- an exchange is told so
+-- an exchange is reported by an event
 as_told : (port connection : ℕ) (octets back : List ℕ) (exchange : Exchange) → IsShortestRequest octets exchange.request
     → answer_of back ≡ Ok exchange.answer → IsToldAs port connection (trace.Exchange port connection octets back) exchange
 as_told port connection octets back exchange sent heard =
@@ -96,7 +96,7 @@ writes_another =
 
 -- ---- conversations
 
--- what is told as the sensor is examined, and its replacement
+-- the events as the sensor and its replacement are examined
 abbrev pub flagged_reads : List Event
 flagged_reads =
     trace.Exchange 1 0 (0xA4 ∷ 0x03 ∷ 0x02 ∷ 0xA5 ∷ []) (0xD3 ∷ 0x80 ∷ 0x53 ∷ [])
@@ -107,13 +107,13 @@ replaced_reads =
     trace.Exchange 1 1 (0xA4 ∷ 0x03 ∷ 0x02 ∷ 0xA5 ∷ []) (0xD3 ∷ 0x00 ∷ 0xD3 ∷ [])
     ∷ trace.Exchange 1 1 (0xA4 ∷ 0x03 ∷ 0x04 ∷ 0xA3 ∷ []) (0xD6 ∷ 0x00 ∷ 0x00 ∷ 0x00 ∷ 0x00 ∷ 0xD6 ∷ []) ∷ []
 
--- what is told before the page of the replacement
+-- the events before the page of the replacement
 abbrev pub before_replaced_page : List Event
 before_replaced_page =
     own 1 (stamped 7 ended) ++ Changed 1 Ready ∷ Lost 1 0 None ∷ Changed 1 status.Lost ∷ Attended 1 (example_work (Some 0x024F))
     ∷ Changed 1 Starting ∷ []
 
--- what is told of the download
+-- the events of the download
 abbrev pub start_told : Event
 start_told = trace.Exchange 1 1 (0x25 ∷ 0x03 ∷ 0x01 ∷ 0x03 ∷ 0x24 ∷ []) (0x52 ∷ 0x52 ∷ [])
 

@@ -1,4 +1,4 @@
--- What was told since a port's last work, at each stage of its machine.
+-- The events since a port's last work, at each stage of its machine.
 use Rattle.std.proofs.Common.{◌≡◌, true, ℕ, List, [], ◌∷◌, ◌++◌, ap}
 use Rattle.std.proofs.Common.{◌∙◌, append_assoc}
 use Rattle.std.specs.Prelude.{Option, None}
@@ -75,7 +75,7 @@ judged_more port why events more is quiet = record {
 
 -- ---- stages
 
--- the device that was found is the one that the port wants, by what it was last told
+-- the device that was found fits the work that the port got last
 pub record Fits (port : ℕ) (found : FoundDevice) (events : List Event) : Type 0 where
   pub connection : ℕ
   pub last : WasToldLast port (work_told found.work) events

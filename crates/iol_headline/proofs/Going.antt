@@ -1,4 +1,4 @@
--- Where a step of a port leads, and what it tells.
+-- The stage after a step of a port, and what the step reports.
 use Rattle.std.proofs.Common.{◌≡◌, ◌⊎◌, inl, inr, refl, ℕ, List, [], ◌∷◌, ◌++◌, sym, ap, ◌∙◌, subst, append-nil}
 use Rattle.std.specs.Prelude.{Option, Some, None}
 use Rattle.std.proofs.lemmas.List.Sums.{fold-append}
@@ -30,7 +30,7 @@ use Rattle.iol_headline.proofs.Revisions.{Holds, holds, stays_there}
 use Rattle.iol_headline.proofs.Stages.{WasSaid, Told, said_later}
 use Rattle.std.proofs.Common.{option_map}
 
--- a status is told where it has changed
+-- a status is reported if it has changed
 abbrev pub StatusTold : ℕ → PortStatus → PortStatus → List Event → Type 0
 StatusTold port was now told = ((told ≡ []) × (now ≡ was)) ⊎ ((told ≡ Changed port (status_told now) ∷ []) × (now ≡ was → ⊥))
 
@@ -56,14 +56,14 @@ Began port events told =
     (told ≡ Changed port shows.Uploading ∷ [] → IsExamined decision.Upload port (own port events))
     × (told ≡ Changed port shows.Downloading ∷ [] → IsExamined decision.Download port (own port events))
 
--- lists and statuses that are apart, or the same
+-- lists and statuses that differ, or are the same
 pub nil_one : (e : Event) → (let none : List Event = [] in none ≡ e ∷ []) → ⊥
 nil_one e same = cc
 
 pub status_is : (port : ℕ) (one other : shows.Status) → Changed port one ∷ [] ≡ Changed port other ∷ [] → one ≡ other
 status_is port one other same = cc
 
--- neither is another status told as these
+-- no other status is reported as these
 plain_uploads : (now : PortStatus) → IsPlain now → status_told now ≡ shows.Uploading → ⊥
 plain_uploads status.Uploading plain same = plain
 plain_uploads status.Downloading plain same = plain
@@ -74,7 +74,7 @@ plain_downloads status.Uploading plain same = plain
 plain_downloads status.Downloading plain same = plain
 plain_downloads now plain same = absurd cc
 
--- no transfer begins where nothing is told, or another status
+-- no transfer begins if nothing is reported, or another status
 pub none_began : (port : ℕ) (events : List Stamp) (told : List Event) → told ≡ [] → Began port events told
 none_began port events told none = ((λ one. absurd (nil_one _ (sym none ∙ one))), (λ one. absurd (nil_one _ (sym none ∙ one))))
 
@@ -87,7 +87,7 @@ plain_began port events was now told plain (inr other) = (
 )
 
 module _ (first : ℕ) (start : State) (port connection : ℕ) where
-  -- whatever a step tells of the status it leads to, what holds at a stage holds behind it
+  -- whatever a step reports of the status after it, what holds at a stage holds after it
   abbrev pub Goes : List Stamp → ℕ → List Event → PortStatus → Stage → Type 0
   Goes events clock called was stage =
       (told : List Event) → StatusTold port was (status_of stage) told
@@ -127,7 +127,7 @@ module _ (first : ℕ) (start : State) (port connection : ℕ) where
       )
       by false = settles events clock called was rest.Off
 
-  -- the machine goes on, or starts
+  -- the machine continues, or starts
   pub moved_goes : (events : List Stamp) (clock : ℕ) (called : List Event) (was : PortStatus) (value : PortValue) (next : Next)
       → NextGoes events clock called was next → Goes events clock called was (moved value next).stage
   moved_goes events clock called was value (To stage) goes = goes

@@ -1,4 +1,4 @@
--- The headline follows of what a run over its disk tells.
+-- The headline follows from the events of a run over its disk.
 use Rattle.std.proofs.Common.{◌≡◌, ℕ, List, Result, Ok, Err, IfOk, ap}
 use Rattle.iol_types.specs.State.{State}
 use Rattle.iol_disk.specs.Disk.{Disk, Shows}

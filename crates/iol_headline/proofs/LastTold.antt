@@ -1,4 +1,4 @@
--- What a port was last told to work with, and the page that its device showed last, leave no choice.
+-- The work that a port got last, and the page that its device showed last, leave no choice.
 use Rattle.std.proofs.Common.{◌≡◌, refl, ℕ, List, [], ◌∷◌, sym, ap, ◌∙◌, subst}
 use Rattle.std.specs.Prelude.{true, false, Option}
 use Rattle.iol_types.specs.Config.{is_manual}
@@ -11,11 +11,11 @@ use Rattle.iol_headline.proofs.OnePlace.{Each, TellsPage, one_place}
 use Rattle.iol_headline.specs.Conversations.{AreConnected, HasPage}
 use Rattle.iol_headline.specs.Settled.{IsUnsettled, AreUnsettled, WasToldLast, IsOff, IsJudged}
 
--- a port is told what it is to work with
+-- a port gets its work
 abbrev TellsWorkTo : ℕ → Event → Type 0
 TellsWorkTo port e = (work : Work) × (e ≡ Attended port work)
 
--- a port that has not settled was not told it
+-- a port that has not settled did not get its work
 none_told : (port : ℕ) (events : List Event) → AreUnsettled events → Each (λ e. TellsWorkTo port e → ⊥) events
 none_told port [] unsettled = tt
 none_told port (e ∷ events) unsettled = ((λ is. subst IsUnsettled is.1 unsettled.0), none_told port events unsettled.1)
@@ -23,7 +23,7 @@ none_told port (e ∷ events) unsettled = ((λ is. subst IsUnsettled is.1 unsett
 work_is : (port : ℕ) (one other : Work) → Attended port one ≡ Attended port other → one ≡ other
 work_is port one other same = cc
 
--- it was last told one
+-- the work that a port got last is one
 pub one_work : (port : ℕ) (one other : Work) (events : List Event) → WasToldLast port one events → WasToldLast port other events
     → one ≡ other
 one_work port one other events last same =
@@ -67,7 +67,7 @@ one_judgement port fault other events is same =
     ∙ (ap (ident_fault same.work.config) (one_page port is.connection same.connection is.page same.page events is.shown same.shown)
     ∙ same.judged))
 
--- where it is judged it is not off
+-- a port that is judged by its page is not off
 true_false : true ≡ false → ⊥
 true_false same = cc
 

@@ -36,7 +36,7 @@ abbrev pub AckedThenEnd : ℕ → List Stamp → Event → Type 0
 AckedThenEnd first before e =
     (port connection : ℕ) → Sends port connection (commanded UploadEnd) e → WasStored first port connection before
 
--- what is acknowledged behind more events is not below
+-- what is acknowledged after more events is not below
 acked_rises : (last : ℕ) (events : List Stamp) → AcksRise last events → last ≤ acked last events
 acked_rises last [] rise = omega arith
 acked_rises last (e ∷ events) rise =
@@ -72,7 +72,7 @@ durable_ends first before behind e rise ends port connection sent =
 
 -- ---- all that is said of an event
 
--- the laws of one event behind those before it
+-- the laws of one event after those before it
 pub record IsLawfulAt (first : ℕ) (start : State) (before : List Stamp) (e : Event) : Type 0 where
   pub whole : WholeSets before e
   pub ends : AckedThenEnd first before e
@@ -82,7 +82,7 @@ pub record IsLawfulAt (first : ℕ) (start : State) (before : List Stamp) (e : E
   pub decided : DecidedFirst before e
   pub settled : SettledRight before e
 
--- an event that tells of no request that was sent
+-- an event that reports no request that was sent
 pub unsent_lawful : (first : ℕ) (start : State) (before : List Stamp) (e : Event)
     → ((port connection : ℕ) (request : Request) → Sends port connection request e → ⊥) → WholeSets before e
     → TellsWork first start before e → DecidedFirst before e → SettledRight before e → IsLawfulAt first start before e

@@ -15,7 +15,7 @@ use Rattle.iol_headline.specs.Lists.{IsLawfulList, SetsWereUploaded, WasUploaded
 use Rattle.iol_headline.specs.StoredSets.{WasStored}
 use Rattle.iol_headline.specs.WholeSets.{IsUploadedWhole}
 
--- where a trace accepts a command
+-- the place where a trace accepts a command
 record AcceptsAt (events : List Stamp) (command : CommandValue) : Type 0 where
   pub before : List Stamp
   pub given : ℕ

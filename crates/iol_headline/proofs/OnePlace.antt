@@ -1,4 +1,4 @@
--- What a trace tells of a conversation leaves no choice: one place where it began, one conversation, one work.
+-- What a trace reports of a conversation leaves no choice: one place where it began, one conversation, one work.
 use Rattle.std.proofs.Common.{◌≡◌, refl, ℕ, List, [], ◌∷◌, ◌++◌, sym, ap, ◌∙◌, subst}
 use Rattle.std.specs.Prelude.{Ok, Result}
 use Rattle.iol_link.specs.Isdu.{IsShortestRequest}
@@ -75,7 +75,7 @@ one_in (y ∷ front) behind one x same = absurd (none_at front behind x (sym (ta
     none_at [] behind x none = cons_not x behind none
     none_at (y ∷ front) behind x none = cons_not y (front ++ x ∷ behind) none
 
--- of two places of one list that are marked, and behind which none is, there is one
+-- two marked places of one list, after which none is marked, are one
 pub one_place : {A : Type 0} (Marked : A → Type 0) (xs others : List A) (c d : A) (ys rest : List A) → Marked c → Marked d
     → Each (λ x. Marked x → ⊥) ys → Each (λ x. Marked x → ⊥) rest → xs ++ c ∷ ys ≡ others ++ d ∷ rest
     → (xs ≡ others) × (c ≡ d) × (ys ≡ rest)
@@ -89,11 +89,11 @@ one_place Marked (a ∷ xs) (b ∷ others) c d ys rest here there behind after s
     let more = one_place Marked xs others c d ys rest here there behind after (tail_is a b (xs ++ c ∷ ys) (others ++ d ∷ rest) same) in
     (ap (λ zs. a ∷ zs) more.0 ∙ ap (λ z. z ∷ others) (head_is a b (xs ++ c ∷ ys) (others ++ d ∷ rest) same), more.1, more.2)
 
--- a status of the port is told
+-- a status of the port is reported
 abbrev pub TellsStatus : ℕ → Event → Type 0
 TellsStatus port e = (status : Status) × (e ≡ Changed port status)
 
--- the page of a device is told
+-- the page of a device is reported
 abbrev pub TellsPage : Event → Type 0
 TellsPage e = (port : ℕ) × (connection : ℕ) × (octets : List ℕ) × (e ≡ Page port connection octets)
 
@@ -106,7 +106,7 @@ exchange_no_page : (port connection told on : ℕ) (request answer octets : List
     → trace.Exchange port connection request answer ≡ Page told on octets → ⊥
 exchange_no_page port connection told on request answer octets same = cc
 
--- a conversation tells no status and no page
+-- a conversation reports no status and no page
 pub talk_no_status : (port connection : ℕ) (told : List Event) (conversation : List Exchange) → Converses port connection told conversation
     → Each (λ e. TellsStatus port e → ⊥) told
 talk_no_status port connection [] conversation talk = tt
@@ -136,7 +136,7 @@ none_marked port (e ∷ events) each = (
 
 -- ---- one conversation
 
--- exchanges that are told by one event are one
+-- exchanges that are reported by one event are one
 told_same : (port on connection : ℕ) (request other answer back : List ℕ)
     → trace.Exchange port on request answer ≡ trace.Exchange port connection other back → (request ≡ other) × (answer ≡ back)
 told_same port on connection request other answer back same = (cc, cc)
@@ -153,7 +153,7 @@ one_exchange port on connection e x y one other =
     ap (λ (r : Request). record { request = r; answer = x.answer }) asked
     ∙ ap (λ (a : Answer). record { request = y.request; answer = a }) heard
 
--- conversations that are told by the same events are one
+-- conversations that are reported by the same events are one
 pub one_talk : (port on connection : ℕ) (told : List Event) (conversation other : List Exchange) → Converses port on told conversation
     → Converses port connection told other → conversation ≡ other
 one_talk port on connection [] conversation other talk same = talk ∙ sym same

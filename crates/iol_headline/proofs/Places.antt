@@ -4,7 +4,7 @@ use Rattle.iol_core.specs.Events.{Event, Stamp}
 use Rattle.iol_headline.specs.Places.{Everywhere}
 
 module _ (Holds : List Stamp → Event → Type 0) where
-  -- this holds of each of these events, behind those before them
+  -- this holds of each of these events, after those before them
   abbrev pub EachFrom : List Stamp → List Stamp → Type 0
   EachFrom before [] = Unit {0}
   EachFrom before (e ∷ events) = Holds before e.event × EachFrom (before ++ e ∷ []) events
@@ -19,7 +19,7 @@ module _ (Holds : List Stamp → Event → Type 0) where
         (subst (λ (b : List Stamp). EachFrom b more) (sym (append_assoc before (e ∷ []) events)) rest),
   )
 
-  -- what holds of each event in turn holds wherever it stands
+  -- what holds of each event in turn holds at every place
   each_at : (begin before behind : List Stamp) (e : Stamp) → EachFrom begin (before ++ e ∷ behind) → Holds (begin ++ before) e.event
   each_at begin [] behind e each = subst (λ (b : List Stamp). Holds b e.event) (sym (append-nil begin)) each.0
   each_at begin (d ∷ before) behind e each =

@@ -1,4 +1,4 @@
--- A device is found, read and decided of: what is told.
+-- A device is found and read, and a decision is taken: what is reported.
 use Rattle.std.proofs.Common.{◌≡◌, refl, ◌+◌, ◌-◌, ◌<◌, nat_lt, Bool, true, false, if◌then◌else◌, ℕ, List, [], ◌∷◌, ◌++◌, length, sym, ap}
 use Rattle.std.proofs.Common.{◌∙◌, subst, arith, lit<, append_assoc, append-nil}
 use Rattle.std.specs.Prelude.{Option, Some, None, Result, Ok, ◌&&◌, ◌==◌, not, slice_index}
@@ -69,11 +69,11 @@ module _ (first : ℕ) (start : State) (port connection : ℕ) (events : List St
   abbrev paged : List ℕ → List Event
   paged octets = Page port connection octets ∷ []
 
-  -- the events with those that a step tells
+  -- the events with those of a step
   abbrev behind : List Event → List Stamp
   behind called = events ++ stamped clock called
 
-  -- where a step leads that tells this
+  -- the stage after a step that reports this
   abbrev Leads : List Event → PortStatus → Stage → Type 0
   Leads called was stage = Goes first start port connection events clock called was stage
 
@@ -94,7 +94,7 @@ module _ (first : ℕ) (start : State) (port connection : ℕ) (events : List St
       → own port (events ++ stamped clock (e ∷ [])) ≡ told ++ e ∷ []
   told_own e told is one = own_more port events (stamped clock (e ∷ [])) (e ∷ []) one ∙ ap (λ (es : List Event). es ++ e ∷ []) is
 
-  -- one exchange more
+  -- one more exchange
   pub exchanged_own : (octets back : List ℕ)
       → own port (stamped clock (exchanged octets back)) ≡ trace.Exchange port connection octets back ∷ []
   exchanged_own octets back =

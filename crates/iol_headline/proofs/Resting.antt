@@ -1,4 +1,4 @@
--- A port acts: what was told since its last work.
+-- A port acts: the events since its last work.
 use Rattle.std.proofs.Common.{◌≡◌, inl, inr, refl, ℕ, Bool, false, List, [], ◌∷◌, ◌++◌, sym, ap, ◌∙◌, subst, option_map}
 use Rattle.std.specs.Prelude.{Option, Some, None, Result, Ok, Err}
 use Rattle.iol_types.specs.DataSet.{SetValue}
@@ -65,14 +65,14 @@ module _ {L : Type 0} (number : L → ℕ) (steps : L → LinkCall → LinkAnswe
   abbrev Leads : List Event → Stage → Stage → Type 0
   Leads called was stage = Rests port (own port (events ++ stamped clock called)) (status_of was) stage
 
-  -- nothing was told
+  -- nothing was reported
   by_none : (called : List Event) (was stage : Stage) → called ≡ [] → Rests port (own port events) (status_of was) stage
       → Leads called was stage
   by_none called was stage none goes =
       subst (λ (es : List Event). Leads es was stage) (sym none)
       (subst (λ (es : List Event). Rests port es (status_of was) stage) (sym (own_same port events [] refl)) goes)
 
-  -- one event of the port's own was told
+  -- one event of the port's own was reported
   by_own : (called : List Event) (e : Event) (was stage : Stage) → called ≡ e ∷ [] → own_in port e ≡ e ∷ []
       → Rests port (own port events ++ e ∷ []) (status_of was) stage
       → Leads called was stage
@@ -131,7 +131,7 @@ module _ {L : Type 0} (number : L → ℕ) (steps : L → LinkCall → LinkAnswe
       by_none called (Filing grant page set) (Breaking (held.Upload permit) fault.Memory) told
       (stay port (own port events) (Breaking (held.Upload permit) fault.Memory) tt)
 
-  -- what is told at a stage
+  -- what is reported at a stage
   abbrev IsTold : Stage → Type 0
   IsTold stage = Told first start port (number link) events stage
 
@@ -240,7 +240,7 @@ module _ {L : Type 0} (number : L → ℕ) (steps : L → LinkCall → LinkAnswe
       (stay port (behind called) (Breaking (held.Upload grant) fault.Memory) tt)
   out_rests was heard later called out = absurd out
 
-  -- what holds of a machine behind what it heard
+  -- what holds of a machine after an input
   pub fed_rests : (value later : PortValue) (heard : Input) (called : List Event) → value.port ≡ port → IsTold value.stage
       → StandsAt value.stage → IsAtHand value.stage → ComesOf (wanted value.port value.stage) heard
       → Hears number steps value.port (wanted value.port value.stage) heard link last old new called

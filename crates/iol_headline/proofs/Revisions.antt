@@ -1,4 +1,4 @@
--- The revision of a port rises where it is configured, and nowhere else does its configuration change.
+-- The revision of a port rises if it is configured, and its configuration changes only then.
 use Rattle.std.proofs.Common.{◌≡◌, ◌≢◌, ◌⊎◌, inl, inr, ⊎_elim, ◌≤◌, ◌-◌, ℕ, zero, suc, if◌then◌else◌, List, [], ◌∷◌, Option, Some}
 use Rattle.std.proofs.Common.{None, slice_get, refl, sym, ap, ◌∙◌, subst, arith}
 use Rattle.std.proofs.lemmas.Bool.{cases_eq, le-leb}
@@ -22,7 +22,7 @@ some_is x y same = cc
 pub none_some : {A : Type 0} (x : A) → None ≡ Some x → ⊥
 none_some x same = cc
 
--- where one port may be changed: another stays, and this one is as it was changed
+-- after a change of one port, another port stays, and this one is as it was changed
 changed : (state : State) (number port : ℕ) (change : Port → Port) (here : Option Port) (p : Port) → port_numbered state number ≡ here
     → port_numbered state port ≡ Some p
     → ((port ≢ number) × (port_numbered (changed_at state number change here) port ≡ Some p))
@@ -76,7 +76,7 @@ after_one (Store number revision set) state port p at =
     changed state number port (λ r. with_set r set) (port_numbered state number) p refl at
 after_one (Rollback number) state port p at = changed state number port exchanged (port_numbered state number) p refl at
 
--- what commands leave of a port: its revision has not fallen, and where it is the same none has configured it
+-- what commands leave of a port: its revision has not fallen, and if it is the same none has configured it
 pub record Holds (port : ℕ) (p q : Port) (commands : List CommandValue) : Type 0 where
   pub rises : p.revision ≤ q.revision
   pub config : q.revision ≡ p.revision → q.config ≡ p.config
@@ -114,7 +114,7 @@ for_port (Store number revision set) port p q commands is =
     behind port p (with_set p set) q (Store number revision set) commands refl refl (λ more. more) is
 for_port (Rollback number) port p q commands is = behind port p (exchanged p) q (Rollback number) commands refl refl (λ more. more) is
 
--- what holds behind commands
+-- what holds after commands
 pub holds : (commands : List CommandValue) (state : State) (port : ℕ) (p q : Port) → port_numbered state port ≡ Some p
     → port_numbered (after state commands) port ≡ Some q → Holds port p q commands
 holds [] state port p q at later =

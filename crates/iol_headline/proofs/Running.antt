@@ -1,4 +1,4 @@
--- What a run tells of a port is lawful.
+-- What a run reports of a port is lawful.
 use Rattle.std.proofs.Common.{◌≡◌, ◌⊎◌, inl, inr, ⊎_elim, refl, ℕ, zero, suc, List, [], ◌∷◌, ◌++◌, sym, ap, ◌∙◌, subst, append_assoc}
 use Rattle.std.specs.Prelude.{Option, Some, None}
 use Rattle.iol_types.specs.State.{State, Port, port_numbered}
@@ -78,7 +78,7 @@ module _ (first : ℕ) (start : State) (port : ℕ) where
   woken_stands events (Settled own) is = tt
   woken_stands events stage is = is
 
-  -- a status that is told is the port's own
+  -- a status that is reported is the port's own
   own_status : (was now : PortStatus) (clock : ℕ) (told : List Event) → StatusTold port was now told → own port (stamped clock told) ≡ told
   own_status was now clock told (inl none) = subst (λ (es : List Event). own port (stamped clock es) ≡ es) (sym none.0) refl
   own_status was now clock told (inr one) =
@@ -251,7 +251,7 @@ module _ (first : ℕ) (start : State) (port : ℕ) where
 
     -- ---- a run
 
-    -- what holds of a run of a port's machine, and of all that it has told
+    -- what holds of a run of a port's machine, and of all that it has reported
     pub record RunTold (machine : PortValue) (link : L) (events : List Stamp) : Type 0 where
       pub led : Led port machine
       pub told : Told first start port (number link) events machine.stage

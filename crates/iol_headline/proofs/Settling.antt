@@ -1,4 +1,4 @@
--- Where a step of a port leads, and what the port settles by.
+-- The stage after a step of a port, and what the port settles by.
 use Rattle.std.proofs.Common.{◌≡◌, inl, inr, refl, ◌-◌, nat_lt, Bool, true, false, if◌then◌else◌, ℕ, List, [], ◌∷◌, ◌++◌, length, sym, ap}
 use Rattle.std.proofs.Common.{◌∙◌, subst, append-nil}
 use Rattle.std.specs.Prelude.{Option, Some, None, Result, Ok, Err, ◌&&◌, ◌==◌, not, slice_index}
@@ -58,11 +58,11 @@ use Rattle.iol_headline.proofs.Fitting.{judged_more}
 use Rattle.iol_headline.specs.Conversations.{HasPage}
 use Rattle.iol_headline.specs.Settled.{WasToldLast, IsJudged, SettlesBy}
 
--- a status that is told holds of the events before it
+-- a status that is reported holds of the events before it
 abbrev pub SettlesTold : ℕ → List Event → List Event → Type 0
 SettlesTold port events told = (now : shows.Status) → told ≡ Changed port now ∷ [] → SettlesBy port events now
 
--- whatever is told of the status behind these events
+-- whatever is reported of the status after these events
 abbrev pub Rests : ℕ → List Event → PortStatus → Stage → Type 0
 Rests port events was stage =
     (told : List Event) → StatusTold port was (status_of stage) told → Stands port (events ++ told) stage × SettlesTold port events told
@@ -72,13 +72,13 @@ NextRests port events was (To stage) = Rests port events was stage
 NextRests port events was (Start work) = WasToldLast port (work_told work) events
 
 module _ (port : ℕ) (events : List Event) where
-  -- a status that is told leaves the last work and the last page
+  -- a status that is reported leaves the last work and the last page
   told_quiet : (was now : PortStatus) (told : List Event) → AreQuiet (Changed port (status_told now) ∷ []) → StatusTold port was now told
       → AreQuiet told
   told_quiet was now told quiet (inl none) = subst AreQuiet (sym none.0) (tt, tt)
   told_quiet was now told quiet (inr other) = subst AreQuiet (sym other.0) quiet
 
-  -- the status that is told fits
+  -- the status that is reported fits
   pub settles_told : (was now : PortStatus) (told : List Event) → SettlesBy port events (status_told now) → StatusTold port was now told
       → SettlesTold port events told
   settles_told was now told holds (inl none) = λ other one. absurd (nil_one _ (sym none.0 ∙ one))
@@ -120,7 +120,7 @@ module _ (port : ℕ) (events : List Event) where
       )
       by false manual = rests was rest.Off (record { work = work_told work; last = last; manual = manual })
 
-  -- the machine goes on, or starts
+  -- the machine continues, or starts
   pub moved_rests : (was : PortStatus) (value : PortValue) (next : Next) → NextRests port events was next
       → Rests port events was (moved value next).stage
   moved_rests was value (To stage) is = is
@@ -287,7 +287,7 @@ module _ (port : ℕ) (events : List Event) (work : Work) where
   abbrev said : List Event
   said = events ++ Attended port (work_told work) ∷ []
 
-  -- the work that was just told
+  -- the work that was just reported
   last_said : WasToldLast port (work_told work) said
   last_said = record { older = events; since = []; split = refl; unsettled = tt }
 
@@ -307,7 +307,7 @@ module _ (port : ℕ) (events : List Event) (work : Work) where
   decided_rests found checksum decision.Upload is = stay port said (BeginningUpload found) is
   decided_rests found checksum decision.Download is = stay port said (BeginningDownload found checksum) is
 
-  -- a device that was found fits what is told now
+  -- a device that was found fits the work that is reported now
   still_fits : (found : FoundDevice) → Fits port found events → found.work.config ≡ work.config → IsJudged port None said
   still_fits found is same = record {
     work = work_told work;

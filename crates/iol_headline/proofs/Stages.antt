@@ -1,4 +1,4 @@
--- What a trace tells of a port, at each stage of its machine.
+-- What a trace reports of a port, at each stage of its machine.
 use Rattle.std.proofs.Common.{◌≡◌, ◌<◌, ◌+◌, ℕ, List, [], ◌∷◌, ◌++◌, length, sym, ap, ◌∙◌, subst, append_assoc}
 use Rattle.std.specs.Prelude.{Some, None, slice_index}
 use Rattle.iol_types.specs.Command.{Store}
@@ -61,7 +61,7 @@ module _ (first : ℕ) (start : State) (port connection : ℕ) where
     pub wanted : ident_fault found.work.config found.page ≡ None
     pub said : WasSaid found.work events
 
-  -- State_Property is to be read: it was asked for so many times, each time answered Device busy
+  -- State_Property is to be read: it was read some number of times, each time answered Device busy
   pub record AsksState (found : FoundDevice) (left : ℕ) (events : List Stamp) : Type 0 where
     pub times : ℕ
     pub shows : Shows found (busy_times times state_request) events
@@ -114,7 +114,7 @@ module _ (first : ℕ) (start : State) (port connection : ℕ) where
     pub there : port_numbered (after start (accepted early)) port ≡ Some kept
     pub revision : grant.revision ≡ kept.revision
 
-  -- an upload goes on
+  -- an upload continues
   pub record AsksUpload (grant : UploadGrant) (upload : Machine) (events : List Stamp) : Type 0 where
     pub conversation : List Exchange
     pub uploads : Uploads grant conversation events
@@ -126,7 +126,7 @@ module _ (first : ℕ) (start : State) (port connection : ℕ) where
     pub uploads : Uploads grant conversation events
     pub finished : IsFinished grant.vendor grant.device conversation set
 
-  -- a set is filed, and not yet said to be durable
+  -- a set is filed, and not yet reported as durable
   pub record IsFiled (number : ℕ) (events : List Stamp) : Type 0 where
     pub early : List Stamp
     pub clock : ℕ
@@ -154,7 +154,7 @@ module _ (first : ℕ) (start : State) (port connection : ℕ) where
     pub set_is : IsSet stored.set
     pub since : IsDownloading stored.set conversation download
 
-  -- what a trace tells at each stage
+  -- what a trace reports at each stage
   abbrev pub PagingTold : List Stamp → PageFor → Type 0
   PagingTold events (page_for.Comparing work own) = WasSaid work events
   PagingTold events (page_for.Identifying work) = WasSaid work events

@@ -12,7 +12,7 @@ use Rattle.iol_core.proofs.Places.{get_written, get_other}
 use Rattle.iol_headline.proofs.Revisions.{at_place, is_there, some_is, none_some}
 use Rattle.iol_headline.specs.StoredSets.{HasSet, HadSet, WasStored, SetsWereStored}
 
--- a port that is there behind a change of one port was there before: it is the one that was changed, or as it was
+-- a port that is there after a change of one port was there before: it is the one that was changed, or as it was
 was_there : (state : State) (number port : ℕ) (change : Port → Port) (here : Option Port) (q : Port)
     → port_numbered state number ≡ here
     → port_numbered (changed_at state number change here) port ≡ Some q
@@ -61,7 +61,7 @@ ByThis state command number stored =
     (revision : ℕ) × (p : Port) × (command ≡ Store number revision stored.set) × (port_numbered state number ≡ Some p)
     × (stored.recorded ≡ p.config)
 
--- a port as it was before a command for the port that is told, of which it is what the change makes
+-- a port as it was before a command for a port, of which it is what the change makes
 abbrev Before : State → ℕ → (Port → Port) → ℕ → Port → Type 0
 Before state told change number q =
     (p : Port) × (port_numbered state number ≡ Some p) × ((q ≡ p) ⊎ ((number ≡ told) × (q ≡ change p)))

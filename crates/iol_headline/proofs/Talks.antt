@@ -1,4 +1,4 @@
--- Conversations that go on, and a port's own events among more.
+-- Conversations that continue, and a port's own events among more.
 use Rattle.std.proofs.Common.{◌≡◌, refl, ℕ, nat_eq, Bool, if◌then◌else◌, List, [], ◌∷◌, ◌++◌, ap, sym, ◌∙◌, subst, append-nil}
 use Rattle.std.specs.Prelude.{Ok}
 use Rattle.std.proofs.lemmas.Bool.{eq-eqb}
@@ -13,7 +13,7 @@ use Rattle.iol_core.specs.Events.{Event, Stamp, stamped}
 use Rattle.iol_core.specs.Own.{own, own_in}
 use Rattle.iol_headline.specs.Conversations.{Converses, AreConnected}
 
--- one exchange more
+-- one more exchange
 pub talk_more : (port connection : ℕ) (told : List Event) (conversation : List Exchange) (request answer : List ℕ) (sent : Request)
     (heard : Answer)
     → IsShortestRequest request sent → answer_of answer ≡ Ok heard → Converses port connection told conversation
@@ -34,7 +34,7 @@ talk_more port connection (e ∷ told) conversation request answer sent heard sp
   talk_more port connection told talk.1 request answer sent heard spelled said talk.4,
 )
 
--- where there is a conversation there is no page and no loss
+-- a conversation has no page and no loss
 pub talk_connected : (port connection : ℕ) (told more : List Event) (conversation : List Exchange)
     → Converses port connection told conversation
     → AreConnected more → AreConnected (told ++ more)
@@ -47,7 +47,7 @@ talk_connected port connection (e ∷ told) more conversation talk rest =
 pub own_one : (port clock : ℕ) (e : Event) → own_in port e ≡ e ∷ [] → own port (stamped clock (e ∷ [])) ≡ e ∷ []
 own_one port clock e is = ap (λ (es : List Event). es ++ []) is
 
--- own events behind others
+-- own events after others
 pub own_more : (port : ℕ) (events more : List Stamp) (told : List Event) → own port more ≡ told
     → own port (events ++ more) ≡ own port events ++ told
 own_more port events more told is = own-append port events more ∙ ap (λ (es : List Event). own port events ++ es) is

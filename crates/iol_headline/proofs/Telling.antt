@@ -1,4 +1,4 @@
--- What a port tells as it acts is lawful.
+-- What a port reports as it acts is lawful.
 use Rattle.std.proofs.Common.{◌≡◌, refl, ℕ, List, [], ◌∷◌, sym, ap, ◌∙◌, subst}
 use Rattle.std.specs.Prelude.{Some, None, Result, Ok, Err}
 use Rattle.std.specs.Option.{option_map}
@@ -53,7 +53,7 @@ module _ (first : ℕ) (start : State) where
   decided_by before port shows.Downloading told is began = began.1 is
   decided_by before port status told is began = tt
 
-  -- a status is told
+  -- a status is reported
   pub changed_lawful : (before : List Stamp) (port : ℕ) (status : Status) (told : List Event) → told ≡ Changed port status ∷ []
       → Began port before told
       → SettlesBy port (own port before) status → IsLawfulAt first start before (Changed port status)

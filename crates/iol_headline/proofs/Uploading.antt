@@ -1,4 +1,4 @@
--- A port uploads, files the set, and ends the upload: what is told.
+-- A port uploads, files the set, and ends the upload: what is reported.
 use Rattle.std.proofs.Common.{◌≡◌, inl, inr, refl, ◌≤◌, ◌+◌, ◌-◌, nat_lt, nat_le, Bool, true, false, if◌then◌else◌, ℕ, List, [], ◌∷◌}
 use Rattle.std.proofs.Common.{◌++◌, sym, ap, ◌∙◌, subst, arith, append_assoc, append-nil}
 use Rattle.std.specs.Prelude.{Option, Some, None, Result, Ok, Err}
@@ -67,7 +67,7 @@ use Rattle.iol_headline.specs.Conversations.{Converses, HasPage}
 use Rattle.iol_headline.proofs.Lawful.{WasStored}
 use Rattle.iol_headline.specs.WholeSets.{IsUploadedWhole}
 
--- words that are apart
+-- statuses that differ
 uploading_starts : status.Uploading ≡ status.Starting → ⊥
 uploading_starts same = cc
 
@@ -96,11 +96,11 @@ module _ (first : ℕ) (start : State) (port connection : ℕ) (events : List St
   abbrev exchanged : List ℕ → List ℕ → List Event
   exchanged octets back = trace.Exchange port connection octets back ∷ []
 
-  -- the events with those that a step tells
+  -- the events with those of a step
   abbrev behind : List Event → List Stamp
   behind called = events ++ stamped clock called
 
-  -- where a step leads that tells this
+  -- the stage after a step that reports this
   abbrev Leads : List Event → PortStatus → Stage → Type 0
   Leads called was stage = Goes first start port connection events clock called was stage
 
@@ -169,7 +169,7 @@ module _ (first : ℕ) (start : State) (port connection : ℕ) (events : List St
         ((λ one. examined), (λ one. absurd (up_down (sym now.0 ∙ one)))),
       )
 
-  -- one exchange more
+  -- one more exchange
   uploads_more : (grant : UploadGrant) (conversation : List Exchange) (octets back : List ℕ) (sent : Request) (heard : Answer)
       → IsShortestRequest octets sent
       → answer_of back ≡ Ok heard → Uploads first start port connection grant conversation events

@@ -1,4 +1,4 @@
--- Conversations with a device, as a trace tells them.
+-- Conversations with a device, as a trace reports them.
 use Rattle.std.specs.Prelude.{◌≡◌, ℕ, List, [], ◌∷◌, ◌++◌, Some, Ok}
 use Rattle.iol_link.specs.Isdu.{IsShortestRequest}
 use Rattle.iol_link.specs.Reading.{answer_of}
@@ -8,8 +8,8 @@ use Rattle.iol_transfer.specs.Exchanges.{Exchange}
 use Rattle.iol_core.specs.Events as trace
 use Rattle.iol_core.specs.Events.{Event, Page, Lost}
 
--- an event tells an exchange with the device of a port, on a connection: the octets of the request, in its shortest form, and
--- octets that say the answer (own)
+-- an event reports an exchange with the device of a port, on a connection: the octets of the request, in its shortest form, and
+-- octets that mean the answer (own)
 pub record IsToldAs (port connection : ℕ) (told : Event) (exchange : Exchange) : Type 0 where
   pub request : List ℕ
   pub answer : List ℕ
@@ -17,7 +17,7 @@ pub record IsToldAs (port connection : ℕ) (told : Event) (exchange : Exchange)
   pub sent : IsShortestRequest request exchange.request
   pub heard : answer_of answer ≡ Ok exchange.answer
 
--- these events are exchanges with the device of a port, all on one connection, and nothing else: this conversation (own)
+-- these events are exactly this conversation: exchanges with the device of a port, all on one connection (own)
 abbrev pub Converses : ℕ → ℕ → List Event → List Exchange → Type 0
 Converses port connection [] conversation = conversation ≡ []
 Converses port connection (told ∷ more) conversation =
@@ -40,7 +40,7 @@ pub record HasPage (port connection : ℕ) (page : PageValue) (events : List Eve
   pub page_is : page ≡ page_of octets
   pub connected : AreConnected since
 
--- an event tells that a request was sent to the device of a port, on a connection: it was answered, or the device was lost (own)
+-- an event reports that a request was sent to the device of a port, on a connection: it was answered, or the device was lost (own)
 abbrev pub Sends : ℕ → ℕ → Request → Event → Type 0
 Sends port connection request (trace.Exchange told on octets answer) =
     (told ≡ port) × (on ≡ connection) × IsShortestRequest octets request

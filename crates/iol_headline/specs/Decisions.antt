@@ -1,4 +1,4 @@
--- A transfer begins only where the device was identified and examined, and where it was decided so.
+-- A transfer begins only after the device was identified and examined, and the transfer was decided.
 use Rattle.std.specs.Prelude.{◌≡◌, ℕ, List, [], ◌∷◌, ◌++◌, length, slice_index, None}
 use Rattle.iol_types.specs.declared.key.TheConstants.{DATA_STORAGE}
 use Rattle.iol_link.specs.Page.{page_of}
@@ -15,9 +15,9 @@ use Rattle.iol_core.specs.Own.{own}
 use Rattle.iol_core.specs.Statuses.{Work, Uploading, Downloading}
 use Rattle.iol_headline.specs.Conversations.{Converses}
 
--- a port's own events end so: the page of its device, on a connection; there one read of State_Property, one octet, and one of
--- Parameter_Checksum, four octets, each sent again at Device busy; and what the port is to work with. By that the page is the
--- one that the port wants, and from the three it is decided so (own)
+-- a port's own events end with the page of its device, on a connection; there one read of State_Property, one octet, and one of
+-- Parameter_Checksum, four octets, each sent again at Device busy; and the work of the port. The page fits the work, and the two
+-- reads and the work lead to this decision (own)
 pub record IsExamined (is : Decision) (port : ℕ) (events : List Event) : Type 0 where
   pub before : List Event
   pub connection : ℕ
@@ -37,7 +37,7 @@ pub record IsExamined (is : Decision) (port : ℕ) (events : List Event) : Type 
       decide work.config.validation (property_of (slice_index state 0)).state (property_of (slice_index state 0)).flag (number_of sum)
       work.checksum ≡ is
 
--- a port is `uploading` or `downloading` only where that was decided (own)
+-- a port is `uploading` or `downloading` only if that was decided (own)
 abbrev pub DecidedFirst : List Stamp → Event → Type 0
 DecidedFirst before (Changed port Uploading) = IsExamined decision.Upload port (own port before)
 DecidedFirst before (Changed port Downloading) = IsExamined decision.Download port (own port before)

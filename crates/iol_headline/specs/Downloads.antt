@@ -22,7 +22,7 @@ abbrev pub WritesParameter : Request → Type 0
 WritesParameter (Read index subindex) = ⊥
 WritesParameter (Write index subindex octets) = index ≡ DATA_STORAGE → ⊥
 
--- since a port was last `downloading` its own events are exchanges on one connection, and this request is the next of a download
+-- since a port last became `downloading` its own events are exchanges on one connection, and this request is the next of a download
 -- of the set that was durable for it then, a set of the device whose page was read last, on that connection (own)
 pub record IsDownloadOf (first : ℕ) (start : State) (port connection : ℕ) (request : Request) (events : List Stamp) : Type 0 where
   pub early : List Stamp

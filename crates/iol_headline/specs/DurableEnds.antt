@@ -13,7 +13,7 @@ use Rattle.iol_headline.specs.Conversations.{Converses, Sends}
 use Rattle.iol_headline.specs.WholeSets.{IsUploadedWhole}
 
 -- a port's last upload was whole, on this connection, and its set was accepted under this number; since then the port is
--- `storing`, and DS_UploadEnd alone was sent, and answered Device busy (own)
+-- `storing`, and only DS_UploadEnd was sent, and answered Device busy (own)
 pub record IsStored (port connection number : ℕ) (events : List Stamp) : Type 0 where
   pub early : List Stamp
   pub clock : ℕ
@@ -27,7 +27,7 @@ pub record IsStored (port connection number : ℕ) (events : List Stamp) : Type 
   pub since : own port late ≡ Changed port Storing ∷ told
   pub busy : Converses port connection told (busy_times times (commanded UploadEnd))
 
--- DS_UploadEnd is sent only where the last upload is stored, and once the number of its set is acknowledged (own)
+-- DS_UploadEnd is sent only after the last upload was stored and the number of its set was acknowledged (own)
 abbrev pub DurableThenEnd : ℕ → List Stamp → Event → Type 0
 DurableThenEnd first before e =
     (port connection : ℕ) → Sends port connection (commanded UploadEnd) e

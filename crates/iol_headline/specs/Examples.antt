@@ -1,4 +1,4 @@
--- The trace that worked examples speak of: a sensor is backed up and breaks, and its replacement gets its parameters.
+-- The trace of the worked examples: a sensor is backed up and breaks, and its replacement gets its parameters.
 use Rattle.std.specs.Prelude.{ℕ, List, [], ◌∷◌, ◌++◌, Option, Some, None}
 use Rattle.iol_types.specs.Command.{Configure, Store}
 use Rattle.iol_types.specs.DataSet.{SetValue}
@@ -32,8 +32,8 @@ abbrev pub example_page : List ℕ
 example_page =
     0x00 ∷ 0x00 ∷ 0x17 ∷ 0x01 ∷ 0x11 ∷ 0x00 ∷ 0x00 ∷ 0x01 ∷ 0xF4 ∷ 0x00 ∷ 0xAB ∷ 0xCD ∷ 0x00 ∷ 0x00 ∷ 0x00 ∷ 0x00 ∷ []
 
--- for worked examples: port 1 is told its work, reads the page on a connection, and then State_Property and Parameter_Checksum,
--- which are answered so; and it is told its work again (own)
+-- for worked examples: port 1 gets its work, reads the page on a connection, and then State_Property and Parameter_Checksum,
+-- with these answers; then it gets its work again (own)
 abbrev pub examined : ℕ → List ℕ → List ℕ → Option ℕ → List Event
 examined connection state sum checksum =
     Attended 1 (example_work checksum) ∷ Changed 1 Starting ∷ Page 1 connection example_page
@@ -49,7 +49,7 @@ abbrev pub flagged : List Event
 flagged =
     configured ++ examined 0 (0xD3 ∷ 0x80 ∷ 0x53 ∷ []) (0xD6 ∷ 0x00 ∷ 0x00 ∷ 0x02 ∷ 0x4F ∷ 0x9B ∷ []) None
 
--- for worked examples: what is exchanged in the upload of that set, up to its checksum (own)
+-- for worked examples: the exchanges of the upload of that set, up to its checksum (own)
 abbrev pub upload : List Event
 upload =
     Exchange 1 0 (0x25 ∷ 0x03 ∷ 0x01 ∷ 0x01 ∷ 0x26 ∷ []) (0x52 ∷ 0x52 ∷ [])
@@ -60,8 +60,8 @@ upload =
     ∷ Exchange 1 0 (0xA4 ∷ 0x41 ∷ 0x01 ∷ 0xE4 ∷ []) (0xD3 ∷ 0x7F ∷ 0xAC ∷ [])
     ∷ Exchange 1 0 (0xA4 ∷ 0x03 ∷ 0x04 ∷ 0xA3 ∷ []) (0xD6 ∷ 0x00 ∷ 0x00 ∷ 0x02 ∷ 0x4F ∷ 0x9B ∷ []) ∷ []
 
--- for worked examples: the trace up to the end of the upload, up to the stored set, up to its acknowledgement, up to the end that
--- the sensor is told, and up to the settled port (own)
+-- for worked examples: the trace up to the end of the upload, up to the stored set, up to its acknowledgement, up to DS_UploadEnd,
+-- and up to the settled port (own)
 abbrev pub uploaded : List Event
 uploaded = flagged ++ Changed 1 Uploading ∷ upload
 
@@ -92,11 +92,11 @@ restored =
     half_restored ++ Exchange 1 1 (0x25 ∷ 0x41 ∷ 0x01 ∷ 0x7F ∷ 0x1A ∷ []) (0x52 ∷ 0x52 ∷ [])
     ∷ Exchange 1 1 (0x25 ∷ 0x03 ∷ 0x01 ∷ 0x04 ∷ 0x23 ∷ []) (0x52 ∷ 0x52 ∷ []) ∷ []
 
--- for worked examples: port 1 is configured once more, as it was (own)
+-- for worked examples: port 1 is configured again, as it was (own)
 abbrev pub reconfigured : List Event
 reconfigured = configured ++ Accepted 2 (Configure 1 example_config) ∷ []
 
--- for worked examples: the page of another device of that vendor, 43982, and port 1, which is told its work and reads that page
+-- for worked examples: the page of another device of that vendor, 43982, and port 1, which gets its work and reads that page
 -- (own)
 abbrev pub other_page : List ℕ
 other_page =

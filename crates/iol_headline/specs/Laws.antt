@@ -25,11 +25,11 @@ pub record IsLawful (first : ℕ) (start : State) (events : List Stamp) : Type 0
   pub downloads : Everywhere (DownloadsOnly first start) events
   -- what is written to the Data Storage object is a command
   pub commands : Everywhere CommandsOnly events
-  -- each port is told its configuration and revision after what was accepted, and the checksum of its durable set
+  -- each port gets its configuration and revision after what was accepted, and the checksum of its durable set
   pub works : Everywhere (TellsWork first start) events
-  -- a port is `uploading` or `downloading` only where that was decided, from its device's page, State_Property and
-  -- Parameter_Checksum on one connection, and from what it is to work with
+  -- a port is `uploading` or `downloading` only if that was decided, from its device's page, State_Property and
+  -- Parameter_Checksum on one connection, and from its work
   pub decided : Everywhere DecidedFirst events
-  -- a port is `off`, `ready` of any kind or `mismatch` only by what it was told since it last settled: `off` where that is not
-  -- IOL_MANUAL, `ready` or `mismatch` as the last page of its device fits
+  -- a port becomes `off`, `ready` of any kind or `mismatch` only by the work that it got since it last settled: `off` if that is not
+  -- IOL_MANUAL, `ready` or `mismatch` as the last page of its device fits or not
   pub settled : Everywhere SettledRight events

@@ -2,6 +2,6 @@
 use Rattle.std.specs.Prelude.{◌≡◌, List, ◌∷◌, ◌++◌}
 use Rattle.iol_core.specs.Events.{Event, Stamp}
 
--- wherever an event stands in a trace, this holds of the events before it and of the event (own)
+-- for each event of a trace, this holds of the events before it and of the event (own)
 abbrev pub Everywhere : (List Stamp → Event → Type 0) → List Stamp → Type 0
 Everywhere Holds events = (before behind : List Stamp) (e : Stamp) → events ≡ before ++ e ∷ behind → Holds before e.event

@@ -12,7 +12,7 @@ use Rattle.iol_core.specs.Words.{accepted}
 use Rattle.iol_headline.specs.Conversations.{Converses, HasPage}
 use Rattle.iol_headline.specs.Works.{Unconfigured}
 
--- since a port was last `uploading` its own events are exchanges on one connection, and these are a finished upload of a set
+-- since a port last became `uploading` its own events are exchanges on one connection, and these are a finished upload of a set
 -- from the device whose page was read last, on that connection; the port was not configured since (own)
 pub record IsUploadedWhole (port connection : ℕ) (set : SetValue) (events : List Stamp) : Type 0 where
   pub early : List Stamp

@@ -23,8 +23,8 @@ pub fn is_lawful<F: Name>(engine: &Engine<F>)
     engine.is_sound();
 }
 
-/// Returns the status of a port that is there. It is that of the port's machine, and the one that a lawful trace reported last of the
-/// port: all that the engine has reported.
+/// Returns the status of a port, if the port is there. It is the status of the port's machine, and the last one that the engine has
+/// reported of the port, in a lawful trace.
 pub fn status<F: Name>(engine: &Engine<F>, port: PortId) -> Option<PortStatus>
     ensures status { result ≡ status_in (slice_get engine.now.machines (port - 1)) }
     ensures reported { IfSome result (IsLastReported F.front.start port) }

@@ -10,7 +10,7 @@ ghost use Rattle.iol_headline.specs.Laws.{IsLawful};
 
 use iol_link::DeviceLink;
 
-/// A trace is lawful where what is told of each port is a run of its machine, and where acknowledged numbers do not fall.
+/// A trace is lawful if its events of each port are a run of that port's machine, and its acknowledged numbers do not fall.
 pub fn ports_are_lawful<L: DeviceLink>()
     ensures lawful { (first : ℕ) (start : State) (made : List Step) (links : List L) (events : List Stamp) (last : List L)
         → length last ≡ length links

@@ -1,13 +1,13 @@
-//! What a run promises of its whole trace.
+//! The laws of the whole trace of a run.
 //!
-//! Other crates say what each step does. Here stands what follows of it for each event of a trace, in terms of the events
-//! before it: which conversation with a device is behind a set that is accepted (`specs/WholeSets.antt`), behind the end of an
-//! upload (`specs/DurableEnds.antt`), behind a parameter that is written (`specs/Downloads.antt`) and behind the begin of a
-//! transfer (`specs/Decisions.antt`), what a port is told that it is to work with (`specs/Works.antt`), and what it settles by
+//! Other crates say what each step does. This crate says what follows for each event of a trace, in terms of the events before
+//! it. It says which exchanges with a device come before an accepted set (`specs/WholeSets.antt`), the end of an upload
+//! (`specs/DurableEnds.antt`), a written parameter (`specs/Downloads.antt`) and the begin of a transfer
+//! (`specs/Decisions.antt`). It also says which work a port is given (`specs/Works.antt`), and what it settles by
 //! (`specs/Settled.antt`). `specs/Laws.antt` has them together.
 //!
-//! Modules in reading order: `laws`, what follows of what a run tells of its ports, `schedule`, a run with these laws, and
-//! `examples`, a trace worked out.
+//! Modules in reading order: `laws` derives the laws from what a run reports of its ports, `schedule` is a run with these laws,
+//! `engine` is an engine with these laws, and `examples` is a worked example.
 #![tactic(auto)]
 
 pub mod engine;

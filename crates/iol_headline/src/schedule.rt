@@ -15,8 +15,8 @@ use std::alloc::Global;
 /// Recovers a disk, and runs a schedule over it, with a link for each port of its state, port 1 first.
 ///
 /// # Errors
-/// `Recover` where the disk is not recovered, `Ports` where there is not one link for each port, and `Memory`, in this
-/// order. The links are gone then.
+/// `Recover` if the disk is not recovered, `Ports` if there is not one link for each port, and `Memory` if out of memory, in
+/// this order. The links are dropped then.
 #[tactic(auto, using(crate::proofs::Headlines::headline_of))]
 pub fn run_schedule<D: SectorDisk, L: DeviceLink + Drop>(
     alloc: Global,
@@ -25,9 +25,9 @@ pub fn run_schedule<D: SectorDisk, L: DeviceLink + Drop>(
     schedule: &[Task],
 ) -> Result<Trace<D, L>, RunFault<D>>
     ensures headline { IfOk result (IsHeadline D.disk L.number L.steps disk links.items schedule.now) }
-    // Where no run began, the first thing that was wrong is said.
+    // If no run began, the fault names the first thing that was wrong.
     ensures cause { IfErr result (λ fault. FailsFor D.disk disk (vec_len links) fault) }
-    // A stop then leaves what it might have left before.
+    // A power stop then leaves only what it could have left before.
     ensures fault { IfErr result (λ fault. LeavesOnly (D.disk disk) (D.disk (fault_disk fault)) (IsImage (D.disk disk).content)) }
 {
     iol_run::run_schedule(alloc, disk, links, schedule)

@@ -31,18 +31,18 @@ module _ (s : Standing) (body : List ℕ) (sectors : ℕ) where
   abbrev last_calls : List Call
   last_calls = sync ∷ gate_write s ∷ sync ∷ []
 
-  -- a sector of the body, and those behind it
+  -- a sector of the body, and those after it
   body_first : (j : ℕ) → j < sectors → calls_from s body sectors (Body j) ≡ body_write s body j ∷ calls_from s body sectors (Body (j + 1))
   body_first j below =
       let left : sectors - j ≡ suc (sectors - (j + 1)) = omega arith in
       ap (λ (n : ℕ). map (λ i. body_write s body i) (range_with_len j n) ++ last_calls) left
 
-  -- behind the last sector of the body
+  -- after the last sector of the body
   body_ended : (j : ℕ) → sectors ≡ j + 1 → calls_from s body sectors (Body (j + 1)) ≡ last_calls
   body_ended j is = let none : sectors - (j + 1) ≡ 0 = omega arith in
       ap (λ (n : ℕ). map (λ i. body_write s body i) (range_with_len (j + 1) n) ++ last_calls) none
 
-  -- the call of a phase, and those from the phase behind it on
+  -- the call of a phase, and those from the next phase on
   pub first_call : (p q : Phase) → IsPhase sectors p → next_phase sectors p ≡ Some q → calls_from s body sectors p ≡ call_of s body p
       ∷ calls_from s body sectors q
   first_call (Body j) q in_phase next = by_test (nat_lt (j + 1) sectors) refl (phase_of _ q next)
@@ -70,14 +70,14 @@ module _ (s : Standing) (body : List ℕ) (sectors : ℕ) where
   some_call Gate in_phase = (sync ∷ [], refl)
   some_call SyncGate in_phase = ([], refl)
 
--- those from the first phase on are all
+-- the calls from the first phase on are all calls
 pub all_calls : (s : Standing) (commands : List CommandValue) → calls_from s (body_for s commands) (sectors_for s commands) (Body 0)
     ≡ batch_calls s commands
 all_calls s commands =
     let all : sectors_for s commands - 0 ≡ sectors_for s commands = omega arith in
     ap (λ (n : ℕ). map (λ j. body_write s (body_for s commands) j) (range_with_len 0 n) ++ (sync ∷ gate_write s ∷ sync ∷ [])) all
 
--- three, and one for each sector of the body
+-- there are three calls, and one for each sector of the body
 pub length-batch_calls : (s : Standing) (commands : List CommandValue) → length (batch_calls s commands) ≡ sectors_for s commands + 3
 length-batch_calls s commands =
     omega (
@@ -87,21 +87,21 @@ length-batch_calls s commands =
       length-map-range_with_len (λ j. body_write s (body_for s commands) j) 0 (sectors_for s commands),
     )
 
--- so there are 16 for each slot, and three more, at most
+-- so there are at most 16 calls for each slot, and three more
 pub at_most : (s : Standing) (commands : List CommandValue) → sectors_for s commands ≤ BODY_SECTORS * slots_for commands
     → length (calls_from s (body_for s commands) (sectors_for s commands) (Body 0)) ≤ BODY_SECTORS * slots_for commands + 3
 at_most s commands short = omega (arith, ap (λ (calls : List Call). length calls) (all_calls s commands), length-batch_calls s commands)
 
--- a batch has a sector at least
+-- a batch has at least one sector
 pub sectors_for-some : (s : Standing) (commands : List CommandValue) → 1 ≤ sectors_for s commands
 sectors_for-some s commands = omega (arith, length-body s.epoch (s.number + 1) commands)
 
--- it has as many in each area
+-- it has the same number of sectors in each area
 pub sectors_for-same : (s t : Standing) (commands : List CommandValue) → sectors_for s commands ≡ sectors_for t commands
 sectors_for-same s t commands =
     omega (arith, length-body s.epoch (s.number + 1) commands, length-body t.epoch (t.number + 1) commands)
 
--- behind a batch a journal can be gone on with
+-- after a batch a journal can continue
 pub rests_with : (d : Disk) (s : Standing) (commands : List CommandValue) → CanFollow s commands → total s.layout ≤ d.sectors
     → IsLayout s.layout → s.epoch ≤ s.number + epochs_ahead s.layout.version → length s.state ≡ s.layout.ports
     → IsResting d (with_batch s commands)

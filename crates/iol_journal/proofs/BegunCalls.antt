@@ -1,4 +1,4 @@
--- What the disk calls of a checkpoint ask of it, and the stage that comes next.
+-- What the disk calls of a checkpoint require of it, and its next stage.
 use Rattle.std.proofs.Common.{◌≡◌, ◌≤◌, ◌<◌, ℕ, List, [], ◌∷◌, length, map, get_or, refl, sym, ◌∙◌, ap, subst, arith}
 use Rattle.std.proofs.lemmas.List.{length-map}
 use Rattle.iol_types.specs.Command.{CommandValue}
@@ -26,7 +26,7 @@ use Rattle.iol_journal.specs.declared.stage.CheckpointStage.TheVariants.{WriteHe
 use Rattle.iol_layout.proofs.Plans.{length-plan, plan-row}
 use Rattle.iol_journal.proofs.Phases.{IsFit, fit_for}
 
--- the first batch that is owed
+-- the first owed batch
 pub record HasFirst (t : Standing) (items : List OwedBatch) : Type 0 where
   pub first : OwedBatch
   pub behind : List OwedBatch
@@ -37,13 +37,13 @@ pub has_first : (t : Standing) (items : List OwedBatch) → 1 ≤ length (comman
 has_first t [] some encoded = absurd (omega (arith, some))
 has_first t (first ∷ behind) some encoded = record { first = first; behind = behind; are = refl; encoded = encoded.0 }
 
--- the batch in front, as it is looked up
+-- the front batch, as it is looked up
 pub front_is : (items : List OwedBatch) (first : OwedBatch) → 0 < length items → first ≡ get_or items 0 first
     → (behind : List OwedBatch) × (items ≡ first ∷ behind)
 front_is [] first some is = absurd (omega (arith, some))
 front_is (o ∷ behind) first some is = (behind, ap (λ (f : OwedBatch). f ∷ behind) (sym is))
 
--- a call of a batch depends on where its slots are alone
+-- a call of a batch depends only on where its slots are
 pub same_call : (u t : Standing) (body : List ℕ) (p : Phase) → u.layout ≡ t.layout → u.area ≡ t.area → u.used ≡ t.used
     → call_of u body p ≡ call_of t body p
 same_call u t body (Body j) layout area used = λ i. write (body_at (layout i) (area i) (used i) j) (sector_of body j)
@@ -51,7 +51,7 @@ same_call u t body SyncBody layout area used = refl
 same_call u t body Gate layout area used = λ i. write (slot_at (layout i) (area i) (used i)) open_gate
 same_call u t body SyncGate layout area used = refl
 
--- the stage that comes next, by the numbers that it depends on at each stage
+-- the next stage, by the numbers that it depends on at each stage
 stage-by : (slots records records' sectors sectors' count : ℕ) (stage : CheckpointStage) → (IsSnapshot stage → records ≡ records')
     → ((p : Phase) → stage ≡ Carry p → sectors ≡ sectors')
     → next_stage slots records sectors count stage ≡ next_stage slots records' sectors' count stage
@@ -98,11 +98,11 @@ module _ (d : Disk) (s : Standing) (b : Begun) (is : IsBegun d s b) where
   length-owed : length owed ≡ length b.owed.items
   length-owed = length-map b.owed.items (λ (o : OwedBatch). o.batch.commands)
 
-  -- until the records are durable the plan has as many sectors
+  -- until the records are durable, the plan has all their sectors
   pub same_records : IsSnapshot b.stage → length b.plan.records.items ≡ length (snapshot_writes t)
   same_records snapshot = length-plan (renewed s.layout) (other s.area) (header_of_target t) b.carried.start b.plan (is.plan snapshot)
 
-  -- the first batch, where one is carried
+  -- the first batch, if one is carried
   pub record IsFirst (p : Phase) (o : OwedBatch) : Type 0 where
     pub encoded : IsEncoded t o.batch.commands o.body
     pub follows : CanFollow t o.batch.commands
@@ -124,14 +124,14 @@ module _ (d : Disk) (s : Standing) (b : Begun) (is : IsBegun d s b) where
         in_phase = subst (λ (n : ℕ). IsPhase n p) (ap (sectors_for t) first ∙ sym encoded.sectors) in_stage.1;
       }
 
-  -- some batch is owed where one is carried
+  -- a batch is owed if one is carried
   pub some_first : (p : Phase) → b.stage ≡ Carry p → HasFirst t b.owed.items
   some_first p at =
       let in_stage = subst (IsStage (renewed s.layout).slots (length (snapshot_writes t)) (sectors_for t (first_of owed)) (length owed)) at
       is.drafted.in_stage in
       has_first t b.owed.items in_stage.0 is.encoded
 
-  -- as many sectors as its first batch
+  -- the sectors are those of its first batch
   pub first-sectors : (sectors : ℕ) → ((o : OwedBatch) (behind : List OwedBatch) → b.owed.items ≡ o ∷ behind → sectors ≡ o.body.sectors)
       → (p : Phase) → b.stage ≡ Carry p → sectors ≡ sectors_for t (first_of owed)
   first-sectors sectors told p at =
@@ -177,7 +177,7 @@ module _ {d : Disk} {s : Standing} {b : Begun} (is : IsBegun d s b) {stage : Che
       → IsAreaPlan (renewed s.layout) (other s.area) (header_of_target (target s (log_of b))) b.carried.start b.plan
   plan_of snapshot = is.plan (subst IsSnapshot (sym at) snapshot)
 
-  -- its records lie on the disk
+  -- its records are within the disk
   pub row_of : IsSnapshot stage → IsRow 0 d.sectors (map write_of b.plan.records.items)
   row_of snapshot =
       let here = subst IsSnapshot (sym at) snapshot in
@@ -185,7 +185,7 @@ module _ {d : Disk} {s : Standing} {b : Begun} (is : IsBegun d s b) {stage : Che
       (log_of b))) b.carried.start b.plan is.drafted.resting.fits
       (is.drafted.fresh here).records (is.plan here)
 
--- the sector that is written next is one of the plan's
+-- the next sector to be written is one of the plan's
 pub record_below : {d : Disk} {s : Standing} {b : Begun} (is : IsBegun d s b) (i : ℕ) → b.stage ≡ WriteRecord i
     → i < length b.plan.records.items
 record_below {d} {s} {b} is i at =

@@ -1,4 +1,5 @@
--- What a checkpoint that was begun has, before and behind its disk calls and the batches that are written beside it.
+-- What holds of a begun checkpoint, before and after its disk calls and the batches that are written while it is
+-- paused.
 use Rattle.std.proofs.Common.{◌≡◌, ◌≤◌, ℕ, ◌+◌, true, List, [], ◌∷◌, ◌++◌, length}
 use Rattle.std.proofs.Common.{drop, Option, Some, None, refl, sym, ◌∙◌, ap, subst, arith}
 use Rattle.std.proofs.lemmas.List.{map-append}
@@ -38,9 +39,9 @@ use Rattle.iol_journal.proofs.CheckpointSteps.{means_same, no_batch, with_none, 
 use Rattle.iol_journal.proofs.DraftLaws.{by_stage, some_owed, moved_one, log_unmoved, snapshot_next, drafted_next}
 use Rattle.iol_journal.proofs.DraftLaws.{drafted_on, pauses, pauses_at, holds_parts, batches-epoch, snapshot_owing, drafted_owing}
 
--- ---- behind a disk call
+-- ---- after a disk call
 
--- the commands of the batches that are owed then
+-- the commands of the batches owed after it
 commands-behind : (items : List OwedBatch) (stage : CheckpointStage)
     → commands_owed (owed_behind items stage) ≡ owed_behind (commands_owed items) stage
 commands-behind items stage = by_test (is_carried stage) _ (λ at. rw at (of items)) (λ away. rw away refl)
@@ -54,7 +55,7 @@ encoded-behind : (t : Standing) (items : List OwedBatch) → 1 ≤ length (comma
 encoded-behind t [] some encoded = absurd (omega (arith, some))
 encoded-behind t (first ∷ behind) some encoded = encoded.1
 
--- the plan of an area whose log is this one
+-- the plan of an area with this log
 abbrev PlanOf : Standing → Log → AreaPlan → Type 0
 PlanOf s log plan = IsAreaPlan (renewed s.layout) (other s.area) (header_of_target (target s log)) log.state plan
 
@@ -85,7 +86,7 @@ begun_next d d' s b new q same is next plan log owed stage =
           (some_owed (renewed s.layout).slots _ _ _ b.stage at is.drafted.in_stage) is.encoded)));
     }
 
--- what contracts see of it then
+-- the checkpoint after it, as contracts see it
 abbrev pub moved_view : Begun → CheckpointStage → BegunView
 moved_view b q = record {
   log = log_behind (log_of b) (commands_owed b.owed.items) b.stage;
@@ -100,7 +101,7 @@ view-moved b new q log owed stage =
     ap commands_owed owed ∙ commands-behind b.owed.items b.stage in
     λ i. record { log = log i; owed = commands i; stage = stage i }
 
--- behind the last one the journal stands in the other area
+-- after the last one the journal is in the other area
 pub stands_there : (d : Disk) (s : Standing) (b : Begun) → IsBegun d s b
     → stage_behind (target s (log_of b)) (commands_owed b.owed.items) b.stage ≡ None → (l : Layout) (a : Area) → l ≡ renewed s.layout
     → a ≡ other s.area
@@ -116,7 +117,7 @@ pub ends_there : (d : Disk) (s : Standing) (b : Begun) → IsBegun d s b
 ends_there d s b is none = with_none (target s (log_of b)) (commands_owed b.owed.items)
     (no_batch s (log_of b) (commands_owed b.owed.items) b.stage d d is.drafted none)
 
--- a disk call does not change where it ends
+-- a disk call does not change the standing at the end
 pub ends-moved : (d : Disk) (s : Standing) (b : Begun) → IsBegun d s b
     → with_batches (target s (log_behind (log_of b) (commands_owed b.owed.items) b.stage))
     (owed_behind (commands_owed b.owed.items) b.stage)
@@ -133,7 +134,7 @@ pub begun-behind : (s : Standing) (b new : Begun) (q : CheckpointStage)
     → new.stage ≡ q → begun_behind s (view_of b) ≡ Some (view_of new)
 begun-behind s b new q next log owed stage = rw next (ap Some (sym (view-moved b new q log owed stage)))
 
--- ---- on another disk of as many sectors
+-- ---- on another disk with the same number of sectors
 
 pub begun_on : (d d' : Disk) (s : Standing) (b : Begun) → d'.sectors ≡ d.sectors → IsBegun d s b → IsBegun d' s b
 begun_on d d' s b same is = record { drafted = drafted_on d d' s _ _ _ same is.drafted; plan = is.plan; encoded = is.encoded }
@@ -145,14 +146,14 @@ set_aside_on d d' s idle (Some b) same is = (begun_on d d' s b same is.0, is.1, 
 
 -- ---- paused
 
--- what is read of the area that it writes, while a batch is written beside it
+-- what is read of the area that it writes, while a batch is written
 pub beside_of : (d : Disk) (s : Standing) (idle : Idle) (begun : Option Begun) → IsSetAside d s idle begun
     → IsPaused d s (option_map view_of begun) → IsBeside d s (option_map view_of begun)
 beside_of d s idle None is paused = tt
 beside_of d s idle (Some b) is paused = λ h.
     (holds_parts d.sectors s (target s (log_of b)) (commands_owed b.owed.items) b.stage d.content (pauses s b.stage is.1) (paused h)).1
 
--- ---- one that may have taken memory
+-- ---- a checkpoint that may have allocated memory
 
 pub still_begun : (d : Disk) (s : Standing) (old new : Begun) → IsSameBegun old new → IsBegun d s old → IsBegun d s new
 still_begun d s old new same is =
@@ -178,7 +179,7 @@ still_set_aside d s idle (Some old) (Some new) same is =
 still_set_aside d s idle None (Some new) same is = absurd same
 still_set_aside d s idle (Some old) None same is = absurd same
 
--- contracts see the same of it
+-- contracts see no change of it
 pub same-view : (old new : Option Begun) → AreSame old new → option_map view_of new ≡ option_map view_of old
 same-view None None same = refl
 same-view (Some old) (Some new) same = λ i. Some (record {
@@ -189,7 +190,7 @@ same-view (Some old) (Some new) same = λ i. Some (record {
 same-view None (Some new) same = absurd same
 same-view (Some old) None same = absurd same
 
--- ---- a batch more is owed
+-- ---- one more batch is owed
 
 encoded-more : (t : Standing) (items : List OwedBatch) (o : OwedBatch) → AreEncoded t items
     → IsEncoded (with_batches t (commands_owed items)) o.batch.commands o.body → AreEncoded t (items ++ o ∷ [])

@@ -1,4 +1,4 @@
--- A batch that is written in the area in use leaves the area that a checkpoint writes as it is.
+-- A batch written to the area in use does not change the area that a checkpoint writes.
 use Rattle.std.proofs.Common.{◌≡◌, ◌≢◌, ◌≤◌, ◌<◌, ◌⊎◌, inl, inr, ℕ, zero, suc, ◌+◌, List, [], ◌∷◌, length, take, refl, ◌∙◌, ap, arith}
 use Rattle.iol_types.specs.Command.{CommandValue}
 use Rattle.iol_disk.specs.Calls.{Call, write, sync, content_after}
@@ -35,11 +35,11 @@ use Rattle.iol_layout.proofs.Rows.{row-within, has-same}
 use Rattle.iol_layout.proofs.Spans.{body_at-within}
 use Rattle.iol_journal.proofs.Stages.{first_owed}
 
--- outside of the slots of the area in use the same is read
+-- outside the slots of the area in use, reads do not change
 abbrev pub LeavesOthers : Standing → Content → Content → Type 0
 LeavesOthers s c c' = (i : ℕ) → (i < slot_at s.layout s.area 0) ⊎ (slot_at s.layout s.area s.layout.slots ≤ i) → reads c' i ≡ reads c i
 
--- each call of a batch leaves it so
+-- each call of a batch keeps this
 pub call_leaves : (s : Standing) (batch : List CommandValue) (body : List ℕ) (sectors : ℕ) (p : Phase) (c : Content)
     → IsFit s batch body sectors → IsPhase sectors p → LeavesOthers s c (content_after (call_of s body p) c)
 call_leaves s batch body sectors (Body j) c fit in_phase i apart =
@@ -60,13 +60,13 @@ call_leaves s batch body sectors Gate c fit in_phase i apart =
     away (inr behind) = omega (arith, behind, fit.room, some_slot s Older batch body sectors fit)
 call_leaves s batch body sectors SyncGate c fit in_phase i apart = refl
 
--- the sectors of the other area are none of them
+-- the sectors of the other area are outside those slots
 apart_from : (layout : Layout) (a : Area) (i : ℕ) → gate_at layout (other a) ≤ i → i < gate_at layout (other a) + area_sectors layout
     → (i < slot_at layout a 0) ⊎ (slot_at layout a layout.slots ≤ i)
 apart_from layout A i above below = inr (omega (arith, above))
 apart_from layout B i above below = inl (omega (arith, below))
 
--- where they lie
+-- where these sectors are
 twice : (layout : Layout) (a : Area) → gate_at layout (other (other a)) ≡ gate_at layout a
 twice layout A = refl
 twice layout B = refl
@@ -90,7 +90,7 @@ module _ (size : ℕ) (s : Standing) (log : Log) (c c' : Content) (same : Leaves
   in_other i above below =
       same i (apart_from s.layout s.area i (omega (arith, above, gates (other s.area))) (omega (arith, below, gates (other s.area), alike)))
 
-  -- what an open gate gives
+  -- what follows from an open gate
   opens_beside : (l : Log) → OpensTo size (target s l) c → OpensTo size (target s l) c'
   opens_beside l opens image read gate =
       let before = was size (target s l) c c' image opens read gate in
@@ -114,7 +114,7 @@ module _ (size : ℕ) (s : Standing) (log : Log) (c c' : Content) (same : Leaves
   shut_beside k within shut j below =
       ap is_open (in_other (slot_at t.layout t.area j) (omega arith) (omega (arith, below, within))) ∙ shut j below
 
-  -- what is read of a batch that is carried
+  -- what is read of a carried batch
   written_beside : (batch : List CommandValue) (n : ℕ) → IsFit t batch (body_for t batch) (sectors_for t batch) → n ≤ sectors_for t batch
       → HasWritten t (body_for t batch) n c → HasWritten t (body_for t batch) n c'
   written_beside batch n fit le has j below =

@@ -1,4 +1,4 @@
--- A checkpoint that is paused, while a batch is written beside it and behind that batch.
+-- A paused checkpoint, while a batch is written and after that batch.
 use Rattle.std.proofs.Common.{◌≡◌, ℕ, ◌+◌, List, [], ◌∷◌, length, IsTrue, Option, Some, None, sym, subst}
 use Rattle.std.specs.Option.{option_map}
 use Rattle.iol_types.specs.Command.{CommandValue}
@@ -25,7 +25,7 @@ use Rattle.iol_journal.proofs.DraftLaws.{pauses, holds_owing}
 use Rattle.iol_layout.proofs.Layouts.{size-renewed}
 use Rattle.iol_journal.proofs.Phases.{IsFit}
 
--- a call of the batch leaves what is read of the area that the checkpoint writes
+-- a call of the batch does not change what is read of the area that the checkpoint writes
 pub beside_after : (d d' : Disk) (s : Standing) (batch : List CommandValue) (body : List ℕ) (sectors : ℕ) (p : Phase) (idle : Idle)
     (begun : Option Begun) → IsFit s batch body sectors → IsPhase sectors p → Made (call_of s body p ∷ []) d d'
     → IsSetAside d s idle begun → IsBeside d s (option_map view_of begun) → IsBeside d' s (option_map view_of begun)
@@ -40,7 +40,7 @@ beside_after d d' s batch body sectors p idle (Some b) fit in_phase made is besi
     (area_beside d.sectors s (log_of b) d.content (content_after (call_of s body p) d.content) left
     (size-renewed s.layout is.0.drafted.laid_out) d owed b.stage is.0.drafted (beside h)))
 
--- behind the batch it is owed to the checkpoint
+-- after the batch is written, it is owed to the checkpoint
 pub paused_behind : (d d' : Disk) (s : Standing) (batch : List CommandValue) (idle : Idle) (old new : Option Begun) (body : EncodedBatch)
     (epoch : ℕ) → d'.sectors ≡ d.sectors → IsSetAside d s idle old → CanFollow s batch → IsEncoded s batch body → epoch ≡ s.epoch + 1
     → AreOwing old body epoch batch new → IsBeside d' s (option_map view_of old) → IsAtRest d' (with_batch s batch) idle

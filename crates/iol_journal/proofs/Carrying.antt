@@ -1,4 +1,4 @@
--- A batch is carried into the area that a checkpoint writes, behind the area's closed gate.
+-- A batch is carried into the area that a checkpoint writes, while the area's gate is closed.
 use Rattle.std.proofs.Common.{◌≡◌, ◌≢◌, ◌<◌, ◌⊎◌, inl, inr, ℕ, ◌+◌, ◌==◌, true, if◌then◌else◌, List, sym, ◌∙◌, ap, subst, arith}
 use Rattle.std.proofs.lemmas.Bool.Decides.{nat_tests}
 use Rattle.iol_types.specs.Command.{CommandValue}
@@ -19,7 +19,7 @@ use Rattle.iol_layout.proofs.Frames.{kept_open}
 use Rattle.iol_journal.proofs.Phases.{IsFit, some_slot, but_slots, body_kept, span_read, body_read, written_more}
 use Rattle.iol_layout.proofs.Spans.{body_at-no_gate}
 
--- what is read, but for the gate of an area, which is as in the image
+-- what is read, with the gate of an area taken from an image
 abbrev pub gated : ℕ → Content → Image → Image
 gated gate c image i = if i == gate then image i else reads c i
 
@@ -32,7 +32,7 @@ gated-other gate c image i away = grind (arith, nat_tests)
 either_way : (i j : ℕ) → (i ≡ j) ⊎ (i ≢ j)
 either_way i j = grind (arith, nat_tests)
 
--- an image with an open gate of what is read behind some calls, and as it was before them
+-- an image with an open gate over what is read after some calls, and as it was before them
 module _ (size : ℕ) (t : Standing) (c c' : Content) (image : Image) (opens : OpensTo size t c)
     (read : (i : ℕ) → i ≢ gate_at t.layout t.area → image i ≡ reads c' i) (gate : is_open (image (gate_at t.layout t.area)) ≡ true) where
   abbrev pub was : Image
@@ -41,7 +41,7 @@ module _ (size : ℕ) (t : Standing) (c c' : Content) (image : Image) (opens : O
   pub was_kept : IsKeptAs size t Older was
   was_kept = opens was (gated-other (gate_at t.layout t.area) c image) (ap is_open (gated-there (gate_at t.layout t.area) c image) ∙ gate)
 
-  -- where the calls have changed nothing it is the same
+  -- where the calls change nothing the images are equal
   pub was_same : (i : ℕ) → (i ≢ gate_at t.layout t.area → reads c' i ≡ reads c i) → image i ≡ was i
   was_same i same = elim (either_way i (gate_at t.layout t.area)) [
     | inl here ↦ subst (λ (j : ℕ). image j ≡ was j) (sym here) (sym (gated-there (gate_at t.layout t.area) c image))
@@ -55,7 +55,7 @@ module _ (size : ℕ) (t : Standing) (batch : List CommandValue) (fit : IsFit t 
   abbrev sectors : ℕ
   sectors = sectors_for t batch
 
-  -- a sector of its body is written
+  -- a sector of the batch's body is written
   pub carry_sector : (j : ℕ) (c : Content) → j < sectors → OpensTo size t c × HasWritten t body j c
       → OpensTo size t (wrote (body_at t.layout t.area t.used j) (sector_of body j) c)
       × HasWritten t body (j + 1) (wrote (body_at t.layout t.area t.used j) (sector_of body j) c)
@@ -71,7 +71,7 @@ module _ (size : ℕ) (t : Standing) (batch : List CommandValue) (fit : IsFit t 
           (λ i away. was_same size t c c' image opens read gate i (λ apart.
           reads-wrote_other (body_at t.layout t.area t.used j) (sector_of body j) c i away))
 
-  -- its gate is opened over the whole body
+  -- the gate is opened once the whole body is written
   pub carry_gate : (c : Content) → OpensTo size t c → HasWritten t body sectors c
       → OpensTo size (with_batch t batch) (wrote (slot_at t.layout t.area t.used) open_gate c)
   carry_gate c opens written image read gate =

@@ -1,4 +1,4 @@
--- How many disk calls a checkpoint makes.
+-- The number of disk calls of a checkpoint.
 use Rattle.std.proofs.Common.{◌≤◌, ◌≡◌, ℕ, ◌+◌, ◌*◌, ◌-◌, List, [], ◌∷◌, ◌++◌, length, map, drop, arith, length-append}
 use Rattle.std.specs.List.{range_with_len}
 use Rattle.std.proofs.lemmas.List.{length-drop}
@@ -37,12 +37,12 @@ length-clearing : (t : Standing) (idle : Idle) → length (clearing_calls t idle
 length-clearing t Older = omega arith
 length-clearing t Closed = omega arith
 
--- a batch has 19 calls for each slot at most
+-- a batch has at most 19 calls for each slot
 batch_most : (t : Standing) (batch : List CommandValue) → length (batch_calls t batch) ≤ 19 * slots_for batch
 batch_most t batch =
     omega (arith, length-batch_calls t batch, length-body t.epoch (t.number + 1) batch, slots_of-some (length (records_of batch)))
 
--- so those that are owed have as many for each slot that they take
+-- so the owed batches have at most 19 calls for each slot that they take
 pub carry_most : (t : Standing) (owed : List (List CommandValue))
     → length (carry_calls t owed) + 19 * t.used ≤ 19 * (with_batches t owed).used
 carry_most t [] = omega arith
@@ -54,7 +54,7 @@ carry_most t (batch ∷ batches) =
       carry_most (with_batch t batch) batches,
     )
 
--- the calls of the first batch that is owed, from a phase on
+-- the calls of the first owed batch, from a phase on
 phase_most : (t : Standing) (batch : List CommandValue) (p : Phase)
     → length (calls_from t (body_for t batch) (sectors_for t batch) p) ≤ sectors_for t batch + 3
 phase_most t batch (Body j) =
@@ -68,7 +68,8 @@ phase_most t batch SyncBody = omega arith
 phase_most t batch Gate = omega arith
 phase_most t batch SyncGate = omega arith
 
--- there are as many as slots and sectors of records, nine more at most, and those of the batches that are owed
+-- there are at most one call for each slot and each sector of records, nine more, and those of the owed
+-- batches
 pub at_most : (t : Standing) (owed : List (List CommandValue)) (idle : Idle) → AreRecords t.layout t.area t.state
     → length (checkpoint_calls t owed idle)
     ≤ t.layout.slots + record_sectors t.layout + 9 + length (carry_calls t owed)
@@ -80,7 +81,7 @@ at_most t owed idle records =
     let last = length-append (carry_calls t owed) (gate_calls t) in
     omega (arith, slots, behind, whole, snapshot, last, length-clearing t idle, records.at_most)
 
--- from a stage on there are no more
+-- from a stage on there are no more calls than that
 module _ (t : Standing) (owed : List (List CommandValue)) (records : ℕ) where
   abbrev Few : CheckpointStage → Type 0
   Few stage = length (stage_calls t owed stage) ≤ t.layout.slots + records + 9 + length (carry_calls t owed)
@@ -149,13 +150,13 @@ module _ (t : Standing) (owed : List (List CommandValue)) (records : ℕ) where
   stage_most OpenGate few is = omega arith
   stage_most SyncOpen few is = omega arith
 
--- the batches that are owed fit the area
+-- the owed batches fit the area
 owed_within : (t : Standing) (owed : List (List CommandValue)) → t.used ≤ t.layout.slots → AreOwed t owed
     → (with_batches t owed).used ≤ t.layout.slots
 owed_within t [] within are = within
 owed_within t (batch ∷ batches) within are = owed_within (with_batch t batch) batches are.0.room are.1
 
--- one that was begun makes 19 calls for each slot that is carried, beside those of a new one
+-- a begun checkpoint makes at most 19 calls for each carried slot, in addition to those of a new one
 pub begun_most : (d : Disk) (s : Standing) (b : Begun) → IsBegun d s b
     → length (calls_of s (view_of b)) ≤ 20 * (renewed s.layout).slots + record_sectors (renewed s.layout) + 9
 begun_most d s b is =

@@ -1,4 +1,4 @@
--- What a step of a checkpoint makes of the disk, as its one call says.
+-- What a step of a checkpoint does to the disk, by its one call.
 use Rattle.std.proofs.Common.{◌≡◌, ◌<◌, ℕ, ◌+◌, List, [], ◌∷◌, length, slice_get, get_or, Option, Some, None, unwrap_or}
 use Rattle.std.proofs.Common.{true, IsTrue, Result, Ok, Err, refl, sym, ◌∙◌, ap, subst, arith}
 use Rattle.iol_types.specs.Command.{CommandValue}
@@ -35,9 +35,9 @@ use Rattle.iol_journal.proofs.StageMeanings.{on_the_way}
 use Rattle.iol_journal.proofs.Stages.{HoldsBehind, none_owed, goes_on}
 use Rattle.iol_layout.proofs.Plans.{found-there}
 
--- ---- what a plan has
+-- ---- the parts of a plan
 
--- the call that writes it
+-- the call that writes a part
 pub record-call : (t : Standing) (owed : List (List CommandValue)) (plan : AreaPlan) (i : ℕ) (found : RecordSector)
     → IsAreaPlan t.layout t.area (header_of_target t) t.state plan → i < length plan.records.items
     → found ≡ get_or plan.records.items i found → write_of found ≡ call_at t owed (WriteRecord i)
@@ -113,7 +113,7 @@ module _ (s : Standing) (log : Log) (owed : List (List CommandValue)) (stage : C
       by_result (Ok done) made = made_leaves _ old new _ made way
       by_result (Err told) failed = failed_leaves _ told old new _ failed way
 
-  -- behind the call that succeeded
+  -- after the call that succeeded
   made-behind : Made (call ∷ []) old new → Before → IsTrue new.honest → HoldsBehind new.sectors s t' owed' next new.content
   made-behind made holds h =
       let h_old = subst IsTrue made.after.honest h in
@@ -162,14 +162,14 @@ module _ (s : Standing) (log : Log) (owed : List (List CommandValue)) (stage : C
       (made-behind made holds h) in
       subst (λ (l : Log). EachImage new.content (IsKeptAs new.sectors (target s l) Older)) (unmoved is) whole.0
 
-  -- behind the last call
+  -- after the last call
   pub resting : Made (call ∷ []) old new → IsResting new t
   resting made = resting_on old new t made.after.sectors drafted.resting
 
   order : stage_calls t owed stage ≡ call ∷ calls_behind t' owed' next
   order = first_call t owed stage drafted.some drafted.in_stage
 
-  -- the first of the calls that are left is made, or fails
+  -- the first of the remaining calls is made, or fails
   pub makes_first : (q : CheckpointStage) → next ≡ Some q → Made (call ∷ []) old new
       → MakesFirst (stage_calls t owed stage) (stage_calls t' owed' q) old new (Ok tt)
   makes_first q is made = record {
@@ -194,7 +194,7 @@ pub with_none : (t : Standing) (owed : List (List CommandValue)) → length owed
 with_none t [] none = refl
 with_none t (batch ∷ batches) none = absurd (omega (arith, none))
 
--- the journal behind the last call, as it is made
+-- the journal after the last call, as the code makes it
 pub ends_as : (s : Standing) (log : Log) (l : Layout) (a : Area) → l ≡ renewed s.layout → a ≡ other s.area → MeansSame (target s log) s
     → record { layout = l; area = a; epoch = s.epoch + 1; used = log.used; number = s.number; state = s.state }
     ≡ target s log

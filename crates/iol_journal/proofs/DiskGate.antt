@@ -1,4 +1,4 @@
--- While the gate of the disk is shut nothing counts that is written behind it; what is there counts once the gate is durable and open.
+-- While the gate of the disk is shut, nothing written after it counts; the content counts once the gate is open and durable.
 use Rattle.std.proofs.Common.{◌≡◌, ◌≢◌, ◌≤◌, ℕ, zero, suc, false, List, [], ◌∷◌, ◌++◌, inl, sym, ◌∙◌, ap, subst, take}
 use Rattle.iol_record.specs.declared.version.Version.{Version}
 use Rattle.iol_disk.specs.Content.{Image, Content, IsImage, reads, wrote, synced}
@@ -14,7 +14,7 @@ use Rattle.iol_journal.specs.Orders.{opening_calls}
 use Rattle.iol_layout.specs.declared.geometry.TheConstants.{DISK_GATE}
 use Rattle.iol_journal.proofs.EmptyJournals.{shut-unformatted, journal-behind_gate, empty-journal, empty-or_unformatted}
 
--- whatever a stop leaves, the gate of the disk is closed
+-- whatever a power stop leaves, the gate of the disk is closed
 abbrev pub Shut : Content → Type 0
 Shut c = (image : Image) → IsImage c image → is_open (image DISK_GATE) ≡ false
 
@@ -36,7 +36,7 @@ shut-wrote sector octets c apart shut image is = let w = image-wrote sector octe
 shut-synced : (c : Content) → Shut c → Shut (synced c)
 shut-synced c shut image is = ap (λ (left : Image). is_open (left DISK_GATE)) (image-synced c image is) ∙ shut (reads c) (reads-is_image c)
 
--- it stays shut on the way of calls that spare it
+-- the gate stays shut during calls that do not write it
 pub spared : (calls : List Call) (c : Content) → Spares calls → Shut c → HasOnTheWay calls c (λ image. is_open (image DISK_GATE) ≡ false)
 spared [] c spares shut zero image is = shut image is
 spared [] c spares shut (suc place) image is = shut image is
@@ -46,14 +46,14 @@ spared (write sector octets ∷ calls) c spares shut (suc place) image is =
 spared (sync ∷ calls) c spares shut zero image is = shut image is
 spared (sync ∷ calls) c spares shut (suc place) image is = spared calls (synced c) spares (shut-synced c shut) place image is
 
--- and at their end
+-- and after them
 pub spared-end : (calls : List Call) (c : Content) → Spares calls → Shut c → Shut (content_after_all calls c)
 spared-end [] c spares shut = shut
 spared-end (write sector octets ∷ calls) c spares shut =
     spared-end calls (wrote sector octets c) spares.1 (shut-wrote sector octets c spares.0 shut)
 spared-end (sync ∷ calls) c spares shut = spared-end calls (synced c) spares (shut-synced c shut)
 
--- the way of further calls
+-- the images during further calls
 pub way_append : (first second : List Call) (c : Content) (P : Image → Type 0) → HasOnTheWay first c P
     → HasOnTheWay second (content_after_all first c) P
     → HasOnTheWay (first ++ second) c P
@@ -77,7 +77,7 @@ module _ (version : Version) (g : Geometry) (sectors : ℕ) (fits : total (laid_
       let was = subst (IsEmptyJournal version g) (sym (image-synced c w.0 w.1)) journal in
       empty-or_unformatted version g sectors image fits (journal-behind_gate version g image w.0 w.2 was)
 
-  -- the gate is opened behind a sync
+  -- the gate is opened after a sync
   pub opened : HasOnTheWay opening_calls c (IsEmptyOrUnformatted g sectors)
   opened zero image is = unformatted_now image (shut image is)
   opened (suc zero) image is = unformatted_now image (shut-synced c shut image is)

@@ -1,4 +1,4 @@
--- What holds of a checkpoint behind its disk calls, where it is paused, and behind the batches that are written beside it.
+-- What holds of a checkpoint after its disk calls, while it is paused, and after the batches that are written meanwhile.
 use Rattle.std.proofs.Common.{◌≡◌, ◌≤◌, ℕ, ◌+◌, ◌-◌, nat_lt, Bool, true, false, ◌&&◌, List, [], ◌∷◌, ◌++◌, length, Option, Some}
 use Rattle.std.proofs.Common.{IfSome, refl, sym, ◌∙◌, ap, subst, arith, length-append}
 use Rattle.iol_types.specs.Command.{CommandValue}
@@ -26,7 +26,7 @@ use Rattle.iol_layout.proofs.Chains.{by_test}
 use Rattle.iol_layout.proofs.Layouts.{renewed-newest}
 use Rattle.iol_journal.proofs.StageCalls.{in_next}
 
--- a journal that can be gone on with on a disk, can be on another one of as many sectors
+-- a journal that can continue on a disk can continue on another one with the same number of sectors
 pub resting_on : (d d' : Disk) (s : Standing) → d'.sectors ≡ d.sectors → IsResting d s → IsResting d' s
 resting_on d d' s same resting = record {
   laid_out = resting.laid_out;
@@ -51,16 +51,16 @@ drafted_on d d' s t owed stage same drafted = record {
   slots = drafted.slots;
 }
 
--- ---- behind a disk call
+-- ---- after a disk call
 
--- a batch is carried at one stage alone
+-- a batch becomes carried at only one stage
 pub by_stage : {A : Type 0} (P : Log → List A → Type 0) (log : Log) (owed : List (List CommandValue)) (items : List A)
     (stage : CheckpointStage)
     → P log items → (is_carried stage ≡ true → P (log_with log (first_of owed)) (behind_first items))
     → P (log_behind log owed stage) (owed_behind items stage)
 by_stage P log owed items stage here moved = by_test (is_carried stage) _ (λ at. rw at (moved at)) (λ away. rw away here)
 
--- and one is owed there
+-- and a batch is owed there
 pub some_owed : (slots records sectors owed : ℕ) (stage : CheckpointStage) → is_carried stage ≡ true
     → IsStage slots records sectors owed stage → 1 ≤ owed
 some_owed slots records sectors owed (Carry p) at is = is.0
@@ -76,7 +76,7 @@ some_owed slots records sectors owed SyncRecords at is = absurd cc
 some_owed slots records sectors owed OpenGate at is = absurd cc
 some_owed slots records sectors owed SyncOpen at is = absurd cc
 
--- the batch that is carried can be written, and with those behind it the area ends as before
+-- the carried batch can be written, and with the batches after it the area ends as before
 pub record IsMoved (t : Standing) (owed : List (List CommandValue)) : Type 0 where
   pub first : CanFollow t (first_of owed)
   pub behind : AreOwed (with_batch t (first_of owed)) (behind_first owed)
@@ -86,7 +86,7 @@ pub moved_one : (t : Standing) (owed : List (List CommandValue)) → 1 ≤ lengt
 moved_one t [] some are = absurd (omega (arith, some))
 moved_one t (batch ∷ batches) some are = record { first = are.0; behind = are.1; ends = refl }
 
--- behind the records no more of them is written
+-- after the records no more of them are written
 fresh_next : (slots records sectors owed : ℕ) (stage : CheckpointStage) (P : Type 0) → (IsSnapshot stage → P)
     → IfSome (next_stage slots records sectors owed stage) (λ q. IsSnapshot q → P)
 fresh_next slots records sectors owed ClearHeader P fresh = fresh
@@ -129,7 +129,7 @@ pub log_unmoved : (log : Log) (owed : List (List CommandValue)) (stage : Checkpo
     → log_behind log owed stage ≡ log
 log_unmoved log owed stage is = let away = not_carried stage is in rw away refl
 
--- the stage that comes next is one of the snapshot only where this one is
+-- the next stage belongs to the snapshot only if this one does
 pub snapshot_next : (slots records sectors owed : ℕ) (stage q : CheckpointStage) → next_stage slots records sectors owed stage ≡ Some q
     → IsSnapshot q
     → IsSnapshot stage
@@ -146,7 +146,7 @@ module _ (d d' : Disk) (s : Standing) (log : Log) (owed : List (List CommandValu
   abbrev t' : Standing
   t' = target s (log_behind log owed stage)
 
-  -- a batch is carried where one is owed
+  -- a batch is carried only if one is owed
   moved : is_carried stage ≡ true → IsMoved t owed
   moved at =
       moved_one t owed
@@ -158,7 +158,7 @@ module _ (d d' : Disk) (s : Standing) (log : Log) (owed : List (List CommandValu
       let was = snapshot_next t.layout.slots (length (snapshot_writes t)) (sectors_for t (first_of owed)) (length owed) stage q next is in
       subst (λ (l : Log). IsFresh (target s l)) (sym (log_unmoved log owed stage was)) (drafted.fresh was)
 
-  -- the sectors of records count where they are still to be written alone
+  -- the sectors of records matter only while they are still to be written
   abbrev IsThen : ℕ → CheckpointStage → Type 0
   IsThen records = IsStage t.layout.slots records (sectors_for t' (first_of (owed_behind owed stage))) (length (owed_behind owed stage))
 
@@ -206,7 +206,7 @@ module _ (d d' : Disk) (s : Standing) (log : Log) (owed : List (List CommandValu
 
 -- ---- paused
 
--- where a checkpoint may be paused its gate is not yet written
+-- if a checkpoint may be paused, its gate is not yet written
 pub pauses : (s : Standing) (stage : CheckpointStage) → may_pause s stage ≡ true → can_pause stage ≡ true
 pauses s stage is = by_both (is_renewed s.layout) (can_pause stage) is
   where
@@ -214,7 +214,7 @@ pauses s stage is = by_both (is_renewed s.layout) (can_pause stage) is
     by_both true can is = is
     by_both false can is = absurd cc
 
--- and at another stage at which it is not written it may be paused too
+-- at another stage at which the gate is not written it may be paused too
 pub pauses_at : (s : Standing) (stage next : CheckpointStage) → may_pause s stage ≡ true → can_pause next ≡ true → may_pause s next ≡ true
 pauses_at s stage next is can = by_both (is_renewed s.layout) (can_pause stage) is
   where
@@ -222,7 +222,7 @@ pauses_at s stage next is can = by_both (is_renewed s.layout) (can_pause stage) 
     by_both true was is = can
     by_both false was is = absurd cc
 
--- what holds where a checkpoint may be paused
+-- what holds if a checkpoint may be paused
 pub holds_parts : (size : ℕ) (s t : Standing) (owed : List (List CommandValue)) (stage : CheckpointStage) (c : Content)
     → can_pause stage ≡ true
     → StageHolds size s t owed stage c → EachImage c (IsKeptAs size s (idle_at stage)) × AreaHolds size t owed stage c
@@ -239,7 +239,7 @@ holds_parts size s t owed (Carry p) c may holds = holds
 holds_parts size s t owed OpenGate c may holds = (holds.0, holds.1)
 holds_parts size s t owed SyncOpen c may holds = absurd cc
 
--- ---- a batch more is owed
+-- ---- one more batch is owed
 
 pub first-more : (owed : List (List CommandValue)) (batch : List CommandValue) → 1 ≤ length owed
     → first_of (owed ++ batch ∷ []) ≡ first_of owed
@@ -264,7 +264,7 @@ pub owed-more : (t : Standing) (owed : List (List CommandValue)) (batch : List C
 owed-more t [] batch are follows = (follows, tt)
 owed-more t (first ∷ behind) batch are follows = (are.0, owed-more (with_batch t first) behind batch are.1 follows)
 
--- what holds where a batch was written beside the checkpoint
+-- what holds if a batch was written while the checkpoint was paused
 pub holds_owing : (size : ℕ) (s t : Standing) (owed : List (List CommandValue)) (batch : List CommandValue) (slots records sectors : ℕ)
     (stage : CheckpointStage) (c : Content)
     → can_pause stage ≡ true → IsStage slots records sectors (length owed) stage → EachImage c (IsKeptAs size s (idle_at stage))
@@ -321,7 +321,7 @@ module _ (d d' : Disk) (s : Standing) (log : Log) (owed : List (List CommandValu
   abbrev u : Standing
   u = target s log
 
-  -- the batch can be written behind those that are owed
+  -- the batch can be written after the owed ones
   pub follows_owed : CanFollow (with_batches u owed) batch
   follows_owed =
       let layout = batches-layout u owed ∙ renewed-newest s.layout follows.written in record {

@@ -1,4 +1,5 @@
--- What a disk call leaves of the area that a checkpoint draws up, and of the journal beside it.
+-- What a disk call leaves of the area that a checkpoint writes, and of the journal in the area in
+-- use.
 use Rattle.std.proofs.Common.{◌≡◌, ◌≢◌, ◌≤◌, ◌<◌, ◌⊎◌, inl, inr, ℕ, suc, ◌+◌, if◌then◌else◌, Bool, true, false, List}
 use Rattle.std.proofs.Common.{length, take, Option, Some, None, unwrap_or, refl, sym, ◌∙◌, ap, subst, arith}
 use Rattle.std.proofs.lemmas.Bool.{cases_lt}
@@ -33,7 +34,7 @@ use Rattle.iol_layout.proofs.Readings.{IsFormattedFor, IsRead, header_for, stand
 use Rattle.iol_layout.proofs.Rows.{has-same, row-nth}
 use Rattle.iol_layout.proofs.Headers.{header_of-octets, bounds-sound, few-ahead}
 
--- a header that was found behind an open gate
+-- a header found after an open gate
 header_found : (layout : Layout) (image : Image) (a : Area) (header : Header) → header_in layout image a ≡ Some header
     → header_of (image (header_at layout a)) ≡ header
 header_found layout image a header is = by_gate (is_open (image (gate_at layout a))) is
@@ -49,7 +50,7 @@ header_found layout image a header is = by_gate (is_open (image (gate_at layout 
         clash : (x : Header) → None ≡ Some x → ⊥
         clash x is = cc
 
--- a write that leaves the other area harmless
+-- a write that keeps the other area harmless
 abbrev Spares : Standing → Idle → ℕ → Type 0
 Spares s Older sector = sector ≢ header_at s.layout (other s.area)
 Spares s Closed sector = sector ≢ gate_at s.layout (other s.area)
@@ -80,7 +81,7 @@ module _ (size : ℕ) (s : Standing) where
       other_frame s w.0 image (but_area sector w.0 image inside w.2) size idle idle was
       (idle_after idle sector w.0 image spares w.2 was.other_area)
 
-  -- a sync, behind which the other area is harmless in this way
+  -- a sync, after which the other area is harmless in this way
   pub each_sync : (was idle : Idle) (c : Content) → EachImage c (IsKeptAs size s was) → IsIdle s idle (reads c)
       → EachImage (synced c) (IsKeptAs size s idle)
   each_sync was idle c kept harmless image is =
@@ -90,19 +91,19 @@ module _ (size : ℕ) (s : Standing) where
   pub sync_again : (idle : Idle) (c : Content) → EachImage c (IsKeptAs size s idle) → EachImage (synced c) (IsKeptAs size s idle)
   sync_again idle c kept = each_sync idle idle c kept (kept (reads c) (reads-is_image c)).other_area
 
--- the area that is written, as it will stand with this log
+-- the area that is written, with the standing that this log gives
 module _ (size : ℕ) (s : Standing) (log : Log) (alike : area_sectors (renewed s.layout) ≡ area_sectors s.layout) where
   abbrev t : Standing
   t = target s log
 
-  -- it lies where the journal's other area does
+  -- it is at the place of the journal's other area
   gates : (a : Area) → gate_at t.layout a ≡ gate_at s.layout a
   gates = gate-same t.layout s.layout alike
 
   pub there : gate_at t.layout t.area ≡ gate_at s.layout (other s.area)
   there = gates (other s.area)
 
-  -- one slot more is closed
+  -- one more slot is closed
   pub shut_more : (k : ℕ) (c : Content) → AreShut t k (reads c)
       → AreShut t (k + 1) (reads (wrote (slot_at t.layout t.area k) closed_gate c))
   shut_more k c shut j below = elim (cases_lt j k) [
@@ -162,7 +163,7 @@ module _ (size : ℕ) (s : Standing) (log : Log) (alike : area_sectors (renewed 
         },
       )
 
-  -- once all of it is written, its open gate puts it in use
+  -- once the whole area is written, its open gate puts it in use
   pub opens : (c : Content) → t.epoch ≤ t.number + epochs_ahead t.layout.version → t.number ≤ LAST_NUMBER → IsFresh t
       → IsKeptAs size s Closed (reads c)
       → IsPrepared t (length (snapshot_writes t)) (reads c) → OpensTo size t c
@@ -236,7 +237,7 @@ module _ (size : ℕ) (s : Standing) (log : Log) (alike : area_sectors (renewed 
           (rw (header_found t.layout image (other (other s.area)) _ header) (omega arith))
           whole)
 
-  -- while the gate is on its way
+  -- while the gate is being written
   pub turning : (c : Content) → EachImage c (IsKeptAs size s Closed) → IsSettled c → OpensTo size t c → (image : Image)
       → IsImage (wrote (gate_at t.layout t.area) open_gate c) image → IsTurning size s t image
   turning c kept settled opens_to image is =

@@ -36,7 +36,7 @@ module _ (version : Version) (g : Geometry) where
   abbrev layout : Layout
   layout = laid_out version g
 
-  -- the gate of the disk does not belong to it
+  -- the gate of the disk does not belong to the area
   pub journal-behind_gate : (image was : Image) → ((i : ℕ) → i ≢ DISK_GATE → image i ≡ was i) → IsEmptyJournal version g was
       → IsEmptyJournal version g image
   journal-behind_gate image was same is = record {
@@ -62,7 +62,7 @@ module _ (version : Version) (g : Geometry) where
       let keeps_slot : nat_lt (given_up Two g.ports) g.slots ≡ true = grind (arith, nat_tests, areas.is.keeps_slot) in
       rw (formatted_large, areas.geometry, large, keeps_slot) refl
 
-  -- behind an open gate it has its layout, is kept, and means number 0 and the empty state
+  -- with the gate open, the image has its layout, is kept, and means number 0 and the empty state
   pub empty-journal : (sectors : ℕ) (image : Image) → total layout ≤ sectors → is_open (image DISK_GATE) ≡ true
       → IsEmptyJournal version g image
       → IsEmptyJournalOf g sectors image
@@ -77,7 +77,7 @@ module _ (version : Version) (g : Geometry) where
             (rw is.areas.b_closed tt) is.areas.b_closed is.whole);
       }
 
-  -- whatever a stop leaves of the gate of the disk
+  -- whatever a power stop leaves of the gate of the disk
   pub empty-or_unformatted : (sectors : ℕ) (image : Image) → total layout ≤ sectors → IsEmptyJournal version g image
       → IsEmptyOrUnformatted g sectors image
   empty-or_unformatted sectors image fits is = at (is_open (image DISK_GATE)) refl

@@ -11,14 +11,14 @@ use Rattle.iol_layout.specs.declared.geometry.TheConstants.{GEOMETRY}
 use Rattle.iol_layout.proofs.OtherArea.{IsWhole}
 use Rattle.iol_journal.specs.Formatting.{first_header}
 
--- the geometry is said; area A is open and area B is closed
+-- the geometry is written; area A is open and area B is closed
 pub record HasAreas (version : Version) (g : Geometry) (image : Image) : Type 0 where
   pub geometry : geometry_of (image GEOMETRY) ≡ Some g
   pub is : IsGeometry g
   pub a_open : is_open (image (gate_at (laid_out version g) A)) ≡ true
   pub b_closed : is_open (image (gate_at (laid_out version g) B)) ≡ false
 
--- behind the gate of the disk stands an empty journal, in area A
+-- after the gate of the disk there is an empty journal, in area A
 pub record IsEmptyJournal (version : Version) (g : Geometry) (image : Image) : Type 0 where
   pub areas : HasAreas version g image
   pub whole : IsWhole (laid_out version g) A (first_header version) (empty_state g.ports) image

@@ -1,4 +1,4 @@
--- What a stop leaves of a disk while it is erased.
+-- What a power stop leaves of a disk while it is erased.
 use Rattle.std.proofs.Common.{◌≡◌, ◌≢◌, ◌≤◌, ◌<◌, ◌⊎◌, ℕ, zero, suc, ◌-◌, ◌^◌, nat_lt, Bool, true, false, IsTrue, [], ◌∷◌, take, Option}
 use Rattle.std.proofs.Common.{Result, Ok, Err, OnOk, inl, inr, refl, sym, ◌∙◌, ap, subst, arith}
 use Rattle.std.proofs.Math.Bool.{and-false}
@@ -30,7 +30,7 @@ use Rattle.iol_layout.proofs.Logs.{log_from-same}
 use Rattle.iol_disk.proofs.Synced.{synced-honest, synced-then, synced-reads, no_read}
 use Rattle.iol_layout.proofs.Sectors.{ports_from-same}
 
--- of the gate of the disk an image shows whether it is open, and nothing else
+-- the meaning of an image depends on the gate of the disk only by whether it is open
 module _ (sectors : ℕ) (old new : Image) (same : (i : ℕ) → i ≢ DISK_GATE → new i ≡ old i) (gate : is_open (new DISK_GATE)
     ≡ is_open (old DISK_GATE)) where
   behind : (layout : Layout) (a : Area) → DISK_GATE < gate_at layout a
@@ -162,12 +162,12 @@ each_of false old new so made h image is =
     subst (λ (n : ℕ). meaning n image ≡ Err unformatted) (sym made.after.sectors)
     (unformatted_if old.sectors image (ap (is_formatted old.sectors) was ∙ sym (so h_old)))
 
--- of a disk that is erased no image is formatted
+-- no image of an erased disk is formatted
 pub erased : (old new : Disk) (result : Result Unit DiskFault) → MakesErasure old new result → OnOk result (EachUnformatted new)
 erased old new (Ok done) makes = each_of makes.gate old new makes.reads_so makes.made
 erased old new (Err fault) makes = tt
 
--- ---- as the calls were answered
+-- ---- by the results of the calls
 
 there_of : (sectors : ℕ) (image : Image) → is_formatted sectors image ≡ true → DISK_GATE < sectors
 there_of sectors image is = by_test (nat_lt DISK_GATE sectors) _ (λ large. grind (arith, nat_tests)) (λ small. absurd (clash small))
@@ -183,7 +183,7 @@ failed_in_first false Write old new failed = failed
 failed_in_first true Sync old new failed = failed_first (sync ∷ []) (write DISK_GATE closed_gate ∷ sync ∷ []) Sync old new failed
 failed_in_first false Sync old new failed = failed
 
--- before the gate was read: it is what the disk reads as
+-- before the gate was read: the gate is what the disk reads as
 as_it_reads : (old new : Disk) (result : Result Unit DiskFault)
     → MakesErasureOf (is_formatted old.sectors (reads old.content)) old new result → MakesErasure old new result
 as_it_reads old new result made = record {
@@ -206,7 +206,7 @@ read_failed told old mid new is after counted same failed =
       subst (λ (n : ℕ). (n < new.failures) ⊎ (2 ^ 64 - 1 ≤ new.failures)) counted failed,
     ))
 
--- once it was read
+-- after the gate was read
 module _ (gate : Bool) (old mid read : Disk) (after : After synced old mid) (counted : mid.failures ≡ old.failures) (same : Same mid read)
     (fault : read.failures ≡ mid.failures)
     (so : Shows mid (λ image. gate ≡ is_formatted mid.sectors image)) (large : gate ≡ true → DISK_GATE < mid.sectors) where

@@ -1,4 +1,4 @@
--- What a stop leaves of a disk while it is formatted.
+-- What a power stop leaves of a disk while it is formatted.
 use Rattle.std.proofs.Common.{◌≡◌, ◌≤◌, ◌⊎◌, ℕ, ◌+◌, Bool, true, false, IsTrue, ◌∷◌, [], ◌++◌, Result, Ok, Err, IfErr, inl, inr, ◌∙◌, ap}
 use Rattle.std.proofs.Common.{sym, subst, arith, length-append}
 use Rattle.iol_record.specs.Record.{newest}
@@ -52,14 +52,14 @@ shut-same old new same shut h image is =
     let h_old = subst IsTrue same.honest h in
     shut h_old image (subst (λ (c : Content). IsImage c image) (same.content h_old) is)
 
--- what is written behind a shut gate of the disk, and then the gate
+-- the writes while the gate of the disk is shut, and then the gate
 abbrev pub WritesBehind : Geometry → Disk → Disk → Type 0
 WritesBehind g old new = IsShut DISK_GATE old → LeavesOnly old new (IsEmptyOrUnformatted g old.sectors)
 
 pub behind-nothing : (g : Geometry) (d : Disk) → WritesBehind g d d
 behind-nothing g d shut = started d _ (λ h image is. inl (shut-unformatted d.sectors image (shut h image is)))
 
--- the way of the calls behind the first sync
+-- the images during the calls after the first sync
 way : (version : Version) (g : Geometry) (sectors : ℕ) (c : Content) → IsGeometry g → total (laid_out version g) ≤ sectors → Shut c
     → HasOnTheWay (journal_writes version g ++ opening_calls) c (IsEmptyOrUnformatted g sectors)
 way version g sectors c is fits shut =
@@ -78,7 +78,7 @@ behind-makes (Ok done) version g old new is fits made shut =
 behind-makes (Err told) version g old new is fits failed shut =
     failed_leaves _ told old new _ failed (λ h. way version g old.sectors old.content is fits (shut h))
 
--- all of them made, each image is the empty journal
+-- after all of them, each image is the empty journal
 pub made-empty : (version : Version) (g : Geometry) (old new : Disk) → IsGeometry g → total (laid_out version g) ≤ old.sectors
     → Made (journal_writes version g ++ opening_calls) old new → IsShut DISK_GATE old → EachIsEmptyJournal new g
 made-empty version g old new is fits made shut h image is_image =
@@ -106,7 +106,7 @@ written-any_moment g old mid read new after same closed writes =
     and_then old mid new _ (weaker old mid _ _ (quiet_sync old mid after) (λ h image is. inl is))
     (weaker mid new _ _ (behind-synced g old mid read new after same closed writes) (λ h image is. inr is))
 
--- of a disk whose gate was open it says nothing more
+-- for a disk whose gate was open nothing more is claimed
 pub closed-or_kept : (old new : Disk) (P : Image → Type 0) → LeavesOnly old new P
     → Shows old (λ image. is_open (image DISK_GATE) ≡ false) → Shows old (λ image. is_open (image DISK_GATE) ≡ true)
     → LeavesOnly old new (IsImage old.content)
@@ -123,7 +123,7 @@ written-since g old mid read new after same closed writes h later image left =
     (behind-synced g old mid read new after same closed writes).each (subst IsTrue (sym after.honest) h) image
     (subst (λ (t : ℕ). IsImageSince t new.content image) next left)
 
--- of a fault that is not the disk's
+-- a fault that is not the disk's
 pub untouched : (result : Result Unit FormatFault) (P : Type 0) → P → IfErr result (λ fault. IfUntouched fault P)
 untouched (Ok done) P p = tt
 untouched (Err TooSmall) P p = p
@@ -131,14 +131,14 @@ untouched (Err AlreadyFormatted) P p = p
 untouched (Err Memory) P p = p
 untouched (Err (DiskFailed fault)) P p = tt
 
--- no call of a format but a write or a sync fails so
+-- only a write or a sync of a format fails in this way
 pub format_failed : (version : Version) (g : Geometry) (told : DiskFault) (old new : Disk) → FailedIn (format_calls version g) told old new
     → MakesFormat version g old new (Err (DiskFailed told))
 format_failed version g Read old new failed = absurd (no_read failed.call failed.kind)
 format_failed version g Write old new failed = failed
 format_failed version g Sync old new failed = failed
 
--- the version that is written, as a call gives it
+-- the newest version, as a call returns it
 pub fits-newest : (version : Version) (g : Geometry) (sectors : ℕ) → version ≡ newest → total (layout_of g) ≤ sectors
     → total (laid_out version g) ≤ sectors
 fits-newest version g sectors is fits = subst (λ (v : Version). total (laid_out v g) ≤ sectors) (sym is) fits

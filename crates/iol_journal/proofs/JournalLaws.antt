@@ -36,7 +36,7 @@ holds_means_either size s idle commands body sectors Gate c holds image is = inl
 holds_means_either size s idle commands body sectors SyncGate c holds image is =
     between_means_either size s idle commands image (holds.0 image is)
 
--- while a batch is under way each image means the state before it or after it
+-- while a batch is being written each image means the state before it or after it
 pub underway_means_either : {D : Type 0} (disk : D → Disk) (w : WritingView D) → IsUnderway disk w → IsTrue (disk w.disk).honest
     → (image : Image) → IsImage (disk w.disk).content image
     → KeptEither (disk w.disk).sectors w.standing.number w.standing.state w.commands image
@@ -44,7 +44,7 @@ underway_means_either disk w under h =
     holds_means_either (disk w.disk).sectors w.standing w.idle w.commands (body_for w.standing w.commands)
     (sectors_for w.standing w.commands) w.phase (disk w.disk).content (under h)
 
--- while a checkpoint is under way each image means the number and the state
+-- while a checkpoint is being written each image means the number and the state
 pub checkpoint_means_its_state : {D : Type 0} (disk : D → Disk) (c : CheckpointingView D) → IsCheckpointUnderway disk c
     → EachMeans (disk c.disk) c.standing.number c.standing.state
 checkpoint_means_its_state disk c under h image is =
@@ -55,7 +55,7 @@ checkpoint_means_its_state disk c under h image is =
 pub rest_means_its_state : (d : Disk) (s : Standing) (idle : Idle) → IsAtRest d s idle → EachMeans d s.number s.state
 rest_means_its_state d s idle rests h image is = kept_means d.sectors s idle image (rests h image is)
 
--- a batch that goes on where the journal stands, and fits an area, wants free slots, or nothing
+-- a batch that follows the journal and fits an area is refused only if too few slots are free
 pub following_batch_wants_a_slot : (s : Standing) (first : ℕ) (commands : List CommandValue) → fits_no_area s commands ≡ false
     → follows s first commands ≡ true
     → (batch_refusal s first commands ≡ None)

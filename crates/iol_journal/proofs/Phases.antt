@@ -1,4 +1,4 @@
--- The disk calls of a batch, one after the other, on an honest disk.
+-- The disk calls of a batch, one after another, on an honest disk.
 use Rattle.std.proofs.Common.{◌≡◌, ◌≢◌, ◌≤◌, ◌<◌, ◌⊎◌, inl, inr, ℕ, zero, suc, ◌+◌, ◌*◌, nat_lt, if◌then◌else◌, Bool, true, false, IsTrue}
 use Rattle.std.proofs.Common.{List, [], ◌∷◌, ◌++◌, length, Some, None, refl, sym, ◌∙◌, ap, subst, arith}
 use Rattle.std.proofs.lemmas.Bool.{cases_lt}
@@ -39,7 +39,7 @@ use Rattle.iol_layout.proofs.Headers.{few-ahead}
 use Rattle.iol_layout.proofs.Spans.{slots_of-some, body_at-within, body_at-rises, body_at-no_gate}
 use Rattle.iol_disk.proofs.Synced.{left_behind}
 
--- with its gate open the slot counts, with its gate closed it does not
+-- with its gate open the slot's batch counts, with its gate closed it does not
 pub between_means_either : (size : ℕ) (s : Standing) (idle : Idle) (commands : List CommandValue) (image : Image)
     → IsBetween size s idle commands image → KeptEither size s.number s.state commands image
 between_means_either size s idle commands image between = by_test (is_open (image (slot_at s.layout s.area s.used))) _
@@ -57,7 +57,7 @@ pub record IsFit (s : Standing) (commands : List CommandValue) (body : List ℕ)
   pub read_back : (rest : List ℕ) → batch_of newest s.epoch (s.number + 1) (body ++ rest) ≡ Some commands
   pub passes : legal s.state commands ≡ true
 
--- one sector more of a body is written
+-- one more sector of a body is written
 pub written_more : (s : Standing) (body : List ℕ) (j : ℕ) (c : Content) → HasWritten s body j c
     → HasWritten s body (j + 1) (wrote (body_at s.layout s.area s.used j) (sector_of body j) c)
 written_more s body j c written k less = elim (cases_lt k j) [
@@ -99,7 +99,7 @@ module _ (s : Standing) (idle : Idle) (commands : List CommandValue) (body : Lis
         (ap is_open (same (slot_at s.layout s.area s.used) (body_at-no_gate s.layout s.area s.used s.used j))
         ∙ kept.rest s.used (omega arith) (omega (arith, fit.room, some_slot)))
 
-    -- the body in an image that differs in the gate alone from what is settled
+    -- the body in an image that differs only in the gate from the settled content
     there : (c : Content) (was image : Image) → IsImage c was → HasWritten s body sectors c → IsSettled c
         → ((i : ℕ) → i ≢ slot_at s.layout s.area s.used → image i ≡ was i)
         → (j : ℕ) → j < sectors → image (body_at s.layout s.area s.used j) ≡ sector_of body j
@@ -153,7 +153,7 @@ module _ (s : Standing) (idle : Idle) (commands : List CommandValue) (body : Lis
         kept image is = let w = image-wrote (body_at s.layout s.area s.used j) (sector_of body j) c image is in
             body_kept size j below w.0 image (each w.0 w.1) w.2
 
-    -- what holds before the call that comes next
+    -- what holds before the next call
     next_body : (size j : ℕ) (q : Phase) (c : Content) (test : Bool) → test ≡ nat_lt (j + 1) sectors → j < sectors
         → (if test then Body (j + 1) else SyncBody) ≡ q
         → EachImage c (IsKeptAs size s idle) × HasWritten s body (j + 1) c → Holds size s idle commands body sectors q c
@@ -220,7 +220,7 @@ module _ (s : Standing) (idle : Idle) (commands : List CommandValue) (body : Lis
         (subst (λ (c : Content). EachImage c (IsKeptAs d.sectors (with_batch s commands) idle)) (sym (after_.content h))
         (at_end d.sectors p d.content none (holds h)))
 
-    -- the images on the way of a call
+    -- the images during a call
     pub on_the_way : (size : ℕ) (p : Phase) (c : Content) → IsPhase sectors p → Holds size s idle commands body sectors p c
         → HasOnTheWay (call_of s body p ∷ []) c (KeptEither size s.number s.state commands)
     on_the_way size (Body j) c in_phase holds zero image is = inl (kept_means size s idle image (holds.0 image is))
@@ -272,7 +272,7 @@ rest_means d d' s s' idle idle' same_disk same_standing same_idle rest =
     (subst (λ (i : Idle). IsAtRest d s i × EachMeans d s.number s.state) (sym same_idle)
     (rest, λ h image is. kept_means d.sectors s idle image (rest h image is))))
 
--- the standing behind a batch, as the step makes it
+-- the standing after a batch, as the step makes it
 pub standing_behind : (place : Place) (number number' span : ℕ) (state state' : State) (commands : List CommandValue)
     → span ≡ slots_for commands
     → number' ≡ number + length commands → state' ≡ after state commands

@@ -1,4 +1,4 @@
--- A recovery leaves a journal on a kept image at rest.
+-- After recovery from a kept image the journal is at rest.
 use Rattle.std.proofs.Common.{◌≡◌, ℕ, nat_lt, Bool, true, false, if◌then◌else◌, IsTrue, Result, Ok, refl, sym, ◌∙◌, ap, subst, arith}
 use Rattle.std.proofs.lemmas.Bool.Decides.{nat_tests}
 use Rattle.iol_disk.specs.Content.{Image, IsImage, reads}
@@ -18,7 +18,7 @@ use Rattle.iol_layout.specs.declared.idle.Idle.TheVariants.{Older, Closed}
 same_standing : (s t : Standing) → ◌≡◌ {A = Result Standing Cause} (Ok s) (Ok t) → s ≡ t
 same_standing s t is = cc
 
--- however the other area is harmless, it is so as its header says
+-- whatever makes the other area harmless, its header shows it
 idle_by_header : (s : Standing) (idle : Idle) (image : Image) → IsIdle s idle image → IsIdle s (idle_in s image) image
 idle_by_header s idle image is = by_test (nat_lt (header_of (image (header_at s.layout (other s.area)))).epoch s.epoch) refl idle is
   where
@@ -28,7 +28,7 @@ idle_by_header s idle image is = by_test (nat_lt (header_of (image (header_at s.
     by_test false test Older is = absurd (grind (arith, nat_tests))
     by_test false test Closed is = is
 
--- a kept image is kept as the journal stands on it
+-- a kept image is kept with the journal's standing on it
 kept_as_found : (sectors : ℕ) (s : Standing) (image : Image) → IsKept sectors image → standing_in sectors image ≡ Ok s
     → IsKeptAs sectors s (idle_in s image) image
 unfolding IsKept
@@ -56,7 +56,7 @@ meaning_of s = Ok (record { number = s.number; state = s.state })
 same_meaning : (m n : Meaning) → ◌≡◌ {A = Result Meaning Cause} (Ok m) (Ok n) → m ≡ n
 same_meaning m n is = cc
 
--- on a disk all of whose images mean the same, what is found is that, and each image means it still
+-- if all images of a disk mean the same, that is what is found, and each image still means it
 pub means-after : (old new : Disk) (s : Standing) (idle : Idle) (number : ℕ) (state : State) → new.sectors ≡ old.sectors → new.honest
     ≡ old.honest
     → Shows old (λ image. standing_in old.sectors image ≡ Ok s)

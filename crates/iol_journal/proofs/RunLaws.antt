@@ -1,4 +1,4 @@
--- What keeps a run, over disks and lists of commands alone.
+-- What keeps a run, in terms of disks and lists of commands only.
 use Rattle.std.proofs.Common.{◌≡◌, ◌≤◌, inl, inr, ⊎_elim, ℕ, zero, suc, ◌+◌, true, IsTrue, List, [], ◌∷◌, ◌++◌, length, take}
 use Rattle.std.proofs.Common.{slice_index_or, All, refl, sym, ◌∙◌, ap, subst, arith, append_assoc, length-append}
 use Rattle.std.proofs.Math.Seq.{take-append_seam}
@@ -19,12 +19,12 @@ use Rattle.iol_journal.specs.Runs.{with_batch_begun, with_batch_written}
 abbrev Has : ℕ → Run → ℕ → Image → Type 0
 Has sectors r least image = HasPrefix sectors r.first r.start (accepted r) least image
 
--- a prefix with more has less
+-- a prefix that reaches a number reaches every smaller one
 fewer : (sectors : ℕ) (r : Run) (least less : ℕ) (image : Image) → less ≤ least → Has sectors r least image → Has sectors r less image
 fewer sectors r least less image le has =
     record { count = has.count; within = has.within; reaches = omega (arith, le, has.reaches); means = has.means }
 
--- what is written is a prefix
+-- the written commands are a prefix
 written_prefix : (sectors : ℕ) (r : Run) (image : Image) → KeptMeans sectors (number_of r) (state_of r) image
     → Has sectors r (number_of r) image
 written_prefix sectors r image kept = record {
@@ -35,7 +35,7 @@ written_prefix sectors r image kept = record {
       (sym (take-append_seam r.written (r.underway ++ r.queued))) kept;
 }
 
--- and with the batch that is underway it is another
+-- and so are the written commands with the batch underway
 underway_prefix : (sectors : ℕ) (r : Run) (image : Image)
     → KeptMeans sectors (number_of r + length r.underway) (after (state_of r) r.underway) image → Has sectors r (number_of r) image
 underway_prefix sectors r image kept = record {
@@ -64,7 +64,7 @@ pub either_prefix : (sectors : ℕ) (r : Run) (image : Image) → KeptEither sec
 either_prefix sectors r image (inl kept) = written_prefix sectors r image kept
 either_prefix sectors r image (inr kept) = underway_prefix sectors r image kept
 
--- a run stays one where each of its marks does
+-- a run stays one if each of its marks does
 marks_by : (old new : Disk) (r s : Run) → s.marks ≡ r.marks → legal s.start (accepted s) ≡ true
     → ((mark : Mark) → IsMarked old r mark → IsMarked new s mark) → IsRun old r → IsRun new s
 marks_by old new r s same passes goes run = record {
@@ -72,7 +72,8 @@ marks_by old new r s same passes goes run = record {
   marks = subst (All (IsMarked new s)) (sym same) (λ k mark below. goes (slice_index_or r.marks k mark) (run.marks k mark below));
 }
 
--- calls keep it of which a stop leaves images that have P, where each image with P has what a mark says
+-- calls keep a run if a power stop during them leaves images that have P, and each image with P has
+-- what a mark says
 keeps : (old new : Disk) (r : Run) (P : Image → Type 0) → LeavesOnly old new P
     → ((mark : Mark) → IsMarked old r mark → IsTrue old.honest → (image : Image) → P image → Has old.sectors r mark.acknowledged image)
     → IsRun old r → IsRun new r
@@ -88,11 +89,11 @@ keeps old new r P leaves has run = marks_by old new r r refl run.passes goes run
           (⊎_elim (was.each h0 image) (has mark was h0 image) (leaves.before h0 mark.clock image (was.passed h0) left));
     }
 
--- calls that add no image keep it
+-- calls that add no image keep a run
 pub no_image_added : (old new : Disk) (r : Run) → LeavesOnly old new (IsImage old.content) → IsRun old r → IsRun new r
 no_image_added old new r leaves = keeps old new r (IsImage old.content) leaves (λ mark was h image is. was.each h image (inr is))
 
--- calls of which a stop leaves images with all that is written keep it
+-- calls keep a run if a power stop during them leaves images with all written commands
 pub stays : (old new : Disk) (r : Run) (P : Image → Type 0) → LeavesOnly old new P
     → ((image : Image) → P image → HasPrefix old.sectors r.first r.start (accepted r) (number_of r) image) → IsRun old r → IsRun new r
 stays old new r P leaves has =
@@ -109,7 +110,7 @@ pub batch_stays : (old new : Disk) (r : Run) → LeavesOnly old new (KeptEither 
 batch_stays old new r leaves =
     stays old new r (KeptEither old.sectors (number_of r) (state_of r) r.underway) leaves (either_prefix old.sectors r)
 
--- the same commands, of which more are written
+-- the same commands, with more of them written
 regrouped : (d : Disk) (r s : Run) → s.first ≡ r.first → s.start ≡ r.start → s.marks ≡ r.marks → accepted s ≡ accepted r → length r.written
     ≤ length s.written → IsRun d r → IsRun d s
 regrouped d r s first start marks same more run =
@@ -138,7 +139,7 @@ batch_ends d r = regrouped d r (with_batch_written r) refl refl refl (append_ass
 abbrev with_mark_now : Disk → Run → ℕ → Run
 with_mark_now d r acknowledged = with_mark r (record { clock = clock d.content; acknowledged = acknowledged })
 
--- a moment, where each image now has all that is written, and no more is acknowledged
+-- a moment at which each image has all written commands, and no more than those are acknowledged
 pub marked : (d : Disk) (r : Run) (acknowledged : ℕ) → acknowledged ≤ number_of r
     → (IsTrue d.honest → (image : Image) → IsImage d.content image → KeptEither d.sectors (number_of r) (state_of r) r.underway image)
     → IsRun d r → IsRun d (with_mark r (record { clock = clock d.content; acknowledged = acknowledged }))
@@ -160,7 +161,7 @@ marked d r acknowledged le here run = record { passes = run.passes; marks = all 
     all zero mark below = fresh
     all (suc k) mark below = again (slice_index_or r.marks k mark) (run.marks k mark (omega (arith, below)))
 
--- more commands are accepted, each of which passes in the state that it meets
+-- more commands are accepted if each passes in the state that it meets
 pub accepts : (d : Disk) (r : Run) (commands : List CommandValue) → legal (after r.start (accepted r)) commands ≡ true → IsRun d r
     → IsRun d (with_commands r commands)
 accepts d r commands pass run = marks_by d d r (with_commands r commands) refl passes goes run
@@ -195,7 +196,7 @@ accepts d r commands pass run = marks_by d d r (with_commands r commands) refl p
 abbrev nothing : ℕ → State → Run
 nothing number state = record { first = number; start = state; written = []; underway = []; queued = []; marks = [] }
 
--- where each image means a number and a state, a run begins with them
+-- if each image means a number and a state, a run begins with them
 pub run_begins : (d : Disk) (number : ℕ) (state : State) → EachMeans d number state → IsRun d (begun (clock d.content) number state)
 run_begins d number state each =
     marked d (nothing number state) number (omega arith)

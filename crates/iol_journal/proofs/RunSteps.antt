@@ -1,4 +1,4 @@
--- What the calls of a journal make of a run, as contracts see journals and batches.
+-- What the calls of a journal do to a run, as contracts see journals and batches.
 use Rattle.std.proofs.Common.{◌≡◌, ◌≤◌, inl, ℕ, List, ◌++◌, length, Option, None, refl, sym, ◌∙◌, ap, subst, arith, length-append}
 use Rattle.std.proofs.lemmas.List.Sums.{fold-append}
 use Rattle.iol_types.specs.Command.{CommandValue}
@@ -67,7 +67,7 @@ run_of_written disk w j {r = r} rests standing leaves paused (under, (run, numbe
   paused,
 )
 
--- calls that leave number and state as they are
+-- calls that do not change number and state
 pub run_of_same_meaning : (old new : Disk) (s t : Standing) (r : Run) → t.number ≡ s.number → t.state ≡ s.state
     → LeavesOnly old new (KeptMeans old.sectors s.number s.state) → IsRunAt old s r → IsRunAt new t r
 run_of_same_meaning old new s t r same_number same_state leaves (run, number, state) =
@@ -92,7 +92,7 @@ marked_at_rest disk r j acknowledged le (rests, (run, number, state), none, paus
   paused,
 )
 
--- a moment, while a batch is
+-- a moment, while a batch is underway
 pub marked_underway : {D : Type 0} (disk : D → Disk) (r : Run) (w : WritingView D) (acknowledged : ℕ) → acknowledged ≤ number_of r
     → IsRunWriting disk r w
     → IsRunWriting disk (with_mark r (record { clock = clock (disk w.disk).content; acknowledged = acknowledged })) w
@@ -108,7 +108,7 @@ marked_underway disk r w acknowledged le (under, (run, number, state), commands,
   beside,
 )
 
--- a moment, while a checkpoint is on its way
+-- a moment, while a checkpoint is being written
 pub marked_checkpointing : {D : Type 0} (disk : D → Disk) (r : Run) (c : CheckpointingView D) (acknowledged : ℕ) → acknowledged
     ≤ number_of r
     → IsRunCheckpointing disk r c

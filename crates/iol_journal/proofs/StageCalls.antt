@@ -28,22 +28,22 @@ use Rattle.iol_layout.proofs.Chains.{by_test}
 abbrev pub log_in : Standing → Log
 log_in t = record { used = t.used; number = t.number; state = t.state }
 
--- how the area stands behind the disk call of a stage
+-- the standing of the area after the disk call of a stage
 abbrev pub target_behind : Standing → List (List CommandValue) → CheckpointStage → Standing
 target_behind t owed stage = with_log t (log_behind (log_in t) owed stage)
 
--- the calls behind one, with the stage that comes next
+-- the calls after one, with the next stage
 abbrev pub calls_behind : Standing → List (List CommandValue) → Option CheckpointStage → List Call
 calls_behind t owed (Some stage) = stage_calls t owed stage
 calls_behind t owed None = []
 
--- the call in a place, and those behind it
+-- the call at a place, and those after it
 drop-call : (calls : List Call) (i : ℕ) → i < length calls → drop i calls ≡ unwrap_or (slice_get calls i) sync ∷ drop (suc i) calls
 drop-call [] i below = absurd (omega (arith, below))
 drop-call (call ∷ calls) zero below = refl
 drop-call (call ∷ calls) (suc i) below = drop-call calls i (omega (arith, below))
 
--- the batches that are owed, and the gate
+-- the owed batches, and the gate
 owed_first : (t : Standing) (owed : List (List CommandValue)) (n : ℕ) → n ≡ length owed
     → carry_calls t owed ++ gate_calls t ≡ stage_calls t owed (next_batch n)
 owed_first t [] n is = rw is refl
@@ -54,7 +54,7 @@ owed_first t (batch ∷ batches) n is =
     (append_assoc (batch_calls t batch) rest (gate_calls t)
     ∙ ap (λ (calls : List Call). calls ++ (rest ++ gate_calls t)) (sym (all_of_batch t batch)))
 
--- behind the first of them one less is owed
+-- after the first of them one batch fewer is owed
 pub length-behind : (owed : List (List CommandValue)) → length owed - 1 ≡ length (behind_first owed)
 length-behind [] = omega arith
 length-behind (batch ∷ batches) = omega arith
@@ -93,7 +93,7 @@ module _ (t : Standing) (owed : List (List CommandValue)) where
       let none : drop n (snapshot_writes t) ≡ [] = drop_of_length-le (snapshot_writes t) (omega (arith, last)) in
       ap (λ (calls : List Call). calls ++ last_calls t owed) none
 
-  -- of two stages the one that comes next
+  -- the next of two possible stages
   one_of : (n m : ℕ) (p q : CheckpointStage) (calls : List Call) → (n < m → calls ≡ stage_calls t owed p)
       → (m ≤ n → calls ≡ stage_calls t owed q)
       → calls ≡ calls_behind t owed (Some (if nat_lt n m then p else q))
@@ -107,7 +107,7 @@ module _ (t : Standing) (owed : List (List CommandValue)) where
       ap (λ (calls : List Call). calls ++ (carry_calls (with_batch t (first_of owed)) (behind_first owed) ++ gate_calls t))
       (first_of_batch t (body_for t (first_of owed)) sectors p q in_phase next)
 
-  -- the call of a stage, and those from the stage behind it on
+  -- the call of a stage, and those from the next stage on
   pub first_call : (stage : CheckpointStage) → 1 ≤ t.layout.slots → IsStage t.layout.slots records sectors (length owed) stage
       → stage_calls t owed stage ≡ call_at t owed stage
       ∷ calls_behind (target_behind t owed stage) (owed_behind owed stage)
@@ -140,14 +140,14 @@ module _ (t : Standing) (owed : List (List CommandValue)) where
   first_call OpenGate some in_stage = refl
   first_call SyncOpen some in_stage = refl
 
-  -- those from the first stage on are all
+  -- the calls from the first stage on are all calls
   pub all_calls : (idle : Idle) → stage_calls t owed (first_stage idle) ≡ checkpoint_calls t owed idle
   all_calls Older = refl
   all_calls Closed = refl
 
--- ---- the stage behind a stage is one
+-- ---- the stage after a stage is a valid one
 
--- the first stage of a batch that is owed, or the gate
+-- the first stage of an owed batch, or the gate
 in_batch : (t : Standing) (slots records : ℕ) (owed : List (List CommandValue)) (n : ℕ) → n ≡ length owed
     → IsStage slots records (sectors_for t (first_of owed)) (length owed) (next_batch n)
 in_batch t slots records [] n is = rw is refl

@@ -21,7 +21,7 @@ use Rattle.iol_disk.proofs.Synced.{left_behind}
 use Rattle.iol_journal.proofs.Stages.{HoldsBehind}
 
 module _ (size : ℕ) (s : Standing) where
-  -- with the gate on its way, where both areas mean the same
+  -- while the gate is being written, if both areas mean the same
   turning_means : (t : Standing) (image : Image) → MeansSame t s → IsTurning size s t image → KeptMeans size s.number s.state image
   turning_means t image (number, state) is = by_test (is_open (image (gate_at t.layout t.area))) _
       (λ opened. rw (← number, ← state) (kept_means size t Older image (is.1 opened)))
@@ -49,7 +49,7 @@ module _ (size : ℕ) (s : Standing) where
   behind_means t owed (Some stage) c holds image is = stage_means t owed stage c holds image is
   behind_means t owed None c (kept, (number, state)) image is = rw (← number, ← state) (kept_means size t Older image (kept image is))
 
-  -- the images on the way of a call
+  -- the images during a call
   pub on_the_way : (t u : Standing) (owed left : List (List CommandValue)) (stage : CheckpointStage) (next : Option CheckpointStage)
       (c : Content)
       → StageHolds size s t owed stage c → HoldsBehind size s u left next (content_after (call_at t owed stage) c)

@@ -1,4 +1,4 @@
--- The disk calls of a checkpoint, one after the other, on an honest disk.
+-- The disk calls of a checkpoint, one after another, on an honest disk.
 use Rattle.std.proofs.Common.{◌≡◌, ◌≤◌, ◌<◌, ℕ, ◌+◌, ◌-◌, nat_lt, if◌then◌else◌, Bool, List, []}
 use Rattle.std.proofs.Common.{◌∷◌, length, Option, Some, None, refl, sym, ◌∙◌, ap, subst, arith}
 use Rattle.std.proofs.lemmas.Bool.Decides.{nat_tests}
@@ -41,12 +41,13 @@ use Rattle.iol_layout.proofs.Headers.{header_of-octets, sound-bounds}
 use Rattle.iol_journal.proofs.DraftWrites.{each_write, each_sync, sync_again, there, shut_more, prepared_none}
 use Rattle.iol_journal.proofs.DraftWrites.{record_written, opens, turning}
 
--- what holds behind the call of a stage: what its next stage asks, or at the end that the checkpoint is whole
+-- what holds after the call of a stage: what the next stage requires, or at the end that the checkpoint is
+-- whole
 abbrev pub HoldsBehind : ℕ → Standing → Standing → List (List CommandValue) → Option CheckpointStage → Content → Type 0
 HoldsBehind size s t owed (Some stage) c = StageHolds size s t owed stage c
 HoldsBehind size s t owed None c = EachImage c (IsKeptAs size t Older) × MeansSame t s
 
--- of two stages the one that comes next
+-- the next of two possible stages
 abbrev one_of : Bool → CheckpointStage → CheckpointStage → Option CheckpointStage
 one_of more p q = Some (if more then p else q)
 
@@ -57,14 +58,14 @@ holds_one_of size s t owed n m p q c more last = by_test (nat_lt n m) _
     (λ less. rw less (more (grind (arith, nat_tests))))
     (λ no_less. rw no_less (last (grind (arith, nat_tests))))
 
--- ---- batches that are carried
+-- ---- carried batches
 
 -- the first of them can be written
 pub first_owed : (t : Standing) (owed : List (List CommandValue)) → 1 ≤ length owed → AreOwed t owed → CanFollow t (first_of owed)
 first_owed t [] some are = absurd (omega (arith, some))
 first_owed t (batch ∷ batches) some are = are.0
 
--- behind the records or a batch: the next one, or the gate
+-- after the records or a batch: the next batch, or the gate
 carry_next : (size : ℕ) (s t : Standing) (owed : List (List CommandValue)) (n : ℕ) (c : Content) → EachImage c (IsKeptAs size s Closed)
     → OpensTo size t c → IsSettled c → HoldsBehind size s t owed (Some (next_batch n)) c
 carry_next size s t owed n c kept opens_to settled = holds_one_of size s t owed 0 n (Carry (Body 0)) OpenGate c
@@ -200,7 +201,7 @@ module _ (size : ℕ) (s : Standing) (log : Log) (owed : List (List CommandValue
   goes_on SyncOpen c fresh in_stage holds =
       (λ image is. subst (IsKeptAs size t' Older) (sym (image-synced c image is)) holds.1, holds.2)
 
--- a checkpoint begins where the journal is at rest
+-- a checkpoint begins while the journal is at rest
 pub first_holds : (size : ℕ) (s t : Standing) (owed : List (List CommandValue)) (idle : Idle) (c : Content)
     → EachImage c (IsKeptAs size s idle)
     → StageHolds size s t owed (first_stage idle) c

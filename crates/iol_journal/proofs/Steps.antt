@@ -1,4 +1,4 @@
--- What a step of a batch makes of the disk, as its one call says.
+-- What a step of a batch does to the disk, by its one call.
 use Rattle.std.proofs.Common.{◌≡◌, ◌≤◌, ℕ, ◌+◌, nat_lt, if◌then◌else◌, Bool, true, false}
 use Rattle.std.proofs.Common.{List, [], ◌∷◌, Option, Some, None, IsTrue, Result, Ok, Err, refl, sym, ◌∙◌, ap, subst, arith}
 use Rattle.std.proofs.lemmas.Bool.Decides.{nat_tests}
@@ -25,7 +25,7 @@ use Rattle.iol_journal.specs.declared.plan.Plan.{Plan}
 use Rattle.iol_journal.proofs.BatchCalls.{rests_with, phase_of, first_call, last_call, some_call}
 use Rattle.iol_journal.proofs.Phases.{fit_of, on_the_way, next_holds, batch_durable}
 
--- the phase behind a phase is one
+-- the phase after a phase is a valid one
 in_next : (sectors : ℕ) (p q : Phase) → IsPhase sectors p → next_phase sectors p ≡ Some q → IsPhase sectors q
 in_next sectors (Body j) q in_phase next = by_test (nat_lt (j + 1) sectors) refl (phase_of _ q next)
   where
@@ -65,7 +65,7 @@ module _ (s : Standing) (idle : Idle) (commands : List CommandValue) (body : Lis
   next_is : (q : Option Phase) → q ≡ next_phase sectors p → q ≡ next_phase (sectors_for s commands) p
   next_is q is = is ∙ ap (λ (n : ℕ). next_phase n p) same_sectors
 
-  -- before the call that comes next
+  -- before the next call
   pub underway : (q : Phase) → Some q ≡ next_phase sectors p → Made (call_of s body p ∷ []) old new → Before
       → IsTrue new.honest → Holds new.sectors s idle commands (body_for s commands) (sectors_for s commands) q new.content
   underway q is made holds =
@@ -73,7 +73,7 @@ module _ (s : Standing) (idle : Idle) (commands : List CommandValue) (body : Lis
       planned.in_phase
       (sym (next_is (Some q) is)) (subst (λ (b : List ℕ). Made (call_of s b p ∷ []) old new) same_body made) holds
 
-  -- behind the last call
+  -- after the last call
   pub durable : None ≡ next_phase sectors p → Made (call_of s body p ∷ []) old new → Before
       → IsTrue new.honest → EachImage new.content (IsKeptAs new.sectors (with_batch s commands) idle)
   durable is made holds =
@@ -93,7 +93,7 @@ module _ (s : Standing) (idle : Idle) (commands : List CommandValue) (body : Lis
   abbrev left : Phase → List Call
   left q = calls_from s (body_for s commands) (sectors_for s commands) q
 
-  -- the first of the calls that are left is made, or fails
+  -- the first of the remaining calls is made, or fails
   pub makes_first : (q : Phase) → Some q ≡ next_phase sectors p → Made (call_of s body p ∷ []) old new
       → MakesFirst (left p) (left q) old new (Ok tt)
   makes_first q is made = record {
@@ -121,7 +121,7 @@ module _ (s : Standing) (idle : Idle) (commands : List CommandValue) (body : Lis
         },
       )
 
--- the journal rests behind its last call
+-- the journal is at rest after its last call
 pub resting_behind : (d d' : Disk) (s : Standing) (commands : List CommandValue) (p : Phase) → IsPlanned d s commands p → d'.sectors
     ≡ d.sectors → IsResting d' (with_batch s commands)
 resting_behind d d' s commands p planned same = rests_with d' s commands planned.follows

@@ -1,4 +1,4 @@
--- Batches and checkpoints behind one another are one run.
+-- Batches and checkpoints one after another are one run.
 use Rattle.std.proofs.Common.{◌≡◌, ◌<◌, ℕ, zero, suc, ◌+◌, inl, true, IsTrue, List, [], ◌∷◌, ◌++◌, length, take, refl, sym, ◌∙◌, subst}
 use Rattle.std.proofs.Common.{arith, append_assoc, append-nil, length-append}
 use Rattle.std.proofs.lemmas.List.Sums.{fold-append}
@@ -62,7 +62,7 @@ stretches_keep_a_run old r stretches none empty all run =
         IsRun old (record { first = r.first; start = r.start; written = r.written; underway = cs; queued = r.queued; marks = r.marks }))
         none run)
 
--- size and honesty stay
+-- the size and the honesty of the disk stay
 same_sectors : (old : Disk) (number : ℕ) (state : State) (stretches : List Stretch) → AreStretches old number state stretches
     → (disk_after old stretches).sectors ≡ old.sectors
 same_sectors old number state [] all = refl
@@ -73,7 +73,7 @@ same_honest : (old : Disk) (number : ℕ) (state : State) (stretches : List Stre
 same_honest old number state [] all = refl
 same_honest old number state (s ∷ stretches) (means, passes, leaves, others) = same_honest s.disk _ _ stretches others ∙ leaves.honest
 
--- behind commands that are written
+-- after written commands
 prefix_behind : (old : Disk) (first : ℕ) (start : State) (written : List CommandValue) (stretches : List Stretch) (k : ℕ) → k
     < length stretches
     → legal start written ≡ true

@@ -1,4 +1,4 @@
--- Facts of how a journal stands, said of what contracts see of it.
+-- Facts of a journal's standing, stated for the journal as contracts see it.
 use Rattle.std.proofs.Common.{◌≡◌, ℕ, ◌+◌, List, [], ◌∷◌, Result, Ok, Err, IfOk, OnOk, subst, arith}
 use Rattle.iol_types.specs.Command.{CommandValue}
 use Rattle.iol_disk.specs.Calls.{Makes}

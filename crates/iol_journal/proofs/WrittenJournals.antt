@@ -41,7 +41,7 @@ blank-port = record {
   stands = refl;
 }
 
--- of ports that a version spells, if each is one
+-- ports that were never configured are valid in a version that can encode them
 are-blank : (version : Version) (n : ℕ) → SpellsState version (replicate n blank) → ArePorts version (replicate n blank)
 are-blank version zero spelled = tt
 are-blank version (suc n) spelled = ((blank-port, spelled.0), are-blank version n spelled.1)
@@ -50,7 +50,7 @@ record-room : (version : Version) → largest_port_record version ≤ SECTOR_OCT
 record-room One = omega arith
 record-room Two = omega arith
 
--- a row behind the gate of the disk spares it
+-- a row of writes after the gate of the disk does not write the gate
 spares-row : (low high : ℕ) (calls : List Call) → DISK_GATE < low → IsRow low high calls → Spares calls
 spares-row low high [] behind row = tt
 spares-row low high (write sector octets ∷ calls) behind row =
@@ -99,7 +99,7 @@ module _ (version : Version) (g : Geometry) where
   abbrev with_header : Content → Content
   with_header c = wrote (header_at layout A) (header_octets version 1 0) c
 
-  -- area A is in its first epoch, and all but the headers is as it was
+  -- area A is in its first epoch, and everything except the headers is unchanged
   record HasHeaders (old new : Image) : Type 0 where
     first_epoch : header_of (new (header_at layout A)) ≡ first_header version
     others : (i : ℕ) → i ≢ header_at layout A → i ≢ header_at layout B → new i ≡ old i
@@ -146,7 +146,7 @@ module _ (version : Version) (g : Geometry) where
           → i ≢ header_at layout A → i ≢ header_at layout B → ports i ≡ gates i
       kept i no_port no_slot no_a no_b = recorded.others i no_port ∙ headed.others i no_a no_b ∙ closed.others i no_slot
 
-  -- the writes behind the gate of the disk leave an empty journal
+  -- the writes after the gate of the disk leave an empty journal
   pub journal-writes : (c : Content) → IsGeometry g → IsEmptyJournal version g (reads (content_after_all (journal_writes version g) c))
   journal-writes c is =
       let slot_calls = slot_writes layout A in

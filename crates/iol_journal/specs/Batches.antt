@@ -1,4 +1,4 @@
--- The disk calls that write a batch, in their order.
+-- The disk calls that write a batch, in order.
 use Rattle.std.specs.Prelude.{◌<◌, ℕ, ◌+◌, ◌-◌, nat_lt, if◌then◌else◌, List, [], ◌∷◌, ◌++◌, length, map, Option, Some, None}
 use Rattle.std.specs.List.{range_with_len}
 use Rattle.iol_types.specs.Command.{CommandValue}
@@ -11,11 +11,11 @@ use Rattle.iol_layout.specs.Octets.{sectors_reached, sector_of}
 use Rattle.iol_journal.specs.declared.phase.Phase.{Phase}
 use Rattle.iol_journal.specs.declared.phase.Phase.TheVariants.{Body, SyncBody, Gate, SyncGate}
 
--- the body of a batch behind a journal that stands so: under its epoch, with the next number (format, Slots)
+-- the body of a batch that follows a journal: under the journal's epoch, with the next number (format, Slots)
 abbrev pub body_for : Standing → List CommandValue → List ℕ
 body_for s commands = body_octets s.epoch (s.number + 1) commands
 
--- how many sectors the body of that batch reaches (format, Slots)
+-- the number of sectors that this body reaches (format, Slots)
 abbrev pub sectors_for : Standing → List CommandValue → ℕ
 sectors_for s commands = sectors_reached (length (body_for s commands))
 
@@ -23,7 +23,7 @@ sectors_for s commands = sectors_reached (length (body_for s commands))
 abbrev pub body_write : Standing → List ℕ → ℕ → Call
 body_write s body j = write (body_at s.layout s.area s.used j) (sector_of body j)
 
--- the write of the open gate of that slot (format, Orders of disk calls)
+-- the write of the open gate of the first free slot (format, Orders of disk calls)
 abbrev pub gate_write : Standing → Call
 gate_write s = write (slot_at s.layout s.area s.used) open_gate
 
@@ -47,7 +47,7 @@ call_of s body SyncBody = sync
 call_of s body Gate = gate_write s
 call_of s body SyncGate = sync
 
--- the phase behind a phase: each sector of the body, its sync, the gate, the gate's sync (format, Orders of disk
+-- the phase after a phase: each sector of the body, its sync, the gate, the gate's sync (format, Orders of disk
 -- calls)
 abbrev pub next_phase : ℕ → Phase → Option Phase
 next_phase sectors (Body j) = Some (if nat_lt (j + 1) sectors then Body (j + 1) else SyncBody)
@@ -55,7 +55,7 @@ next_phase sectors SyncBody = Some Gate
 next_phase sectors Gate = Some SyncGate
 next_phase sectors SyncGate = None
 
--- a phase of a batch whose body has so many sectors (format, Orders of disk calls)
+-- a phase of a batch whose body has `sectors` sectors (format, Orders of disk calls)
 abbrev pub IsPhase : ℕ → Phase → Type 0
 IsPhase sectors (Body j) = j < sectors
 IsPhase sectors phase = Unit {0}

@@ -1,11 +1,11 @@
--- A checkpoint that was begun, as contracts see it.
+-- A begun checkpoint, as contracts see it.
 use Rattle.std.specs.Prelude.{List}
 use Rattle.iol_types.specs.Command.{CommandValue}
 use Rattle.iol_layout.specs.Meaning.{Log}
 use Rattle.iol_journal.specs.declared.stage.CheckpointStage.{CheckpointStage}
 
--- a checkpoint that was begun: the log of the area that it writes, the batches that are still to be carried there, the oldest
--- first, and its next disk call (own)
+-- a begun checkpoint: the log of the area that it writes, the batches that are still to be carried there, oldest first, and
+-- its next disk call (own)
 pub record BegunView : Type 0 where
   pub log : Log
   pub owed : List (List CommandValue)

@@ -1,4 +1,4 @@
--- A run while a checkpoint is on its way.
+-- A run while a checkpoint is being written.
 use Rattle.std.specs.Prelude.{◌≡◌, []}
 use Rattle.iol_disk.specs.Disk.{Disk}
 use Rattle.iol_journal.specs.CheckpointViews.{CheckpointingView, IsCheckpointUnderway}
@@ -11,7 +11,8 @@ use Rattle.iol_journal.specs.declared.checkpointing.CheckpointProgress.TheVarian
 abbrev pub IsRunCheckpointing : {D : Type 0} → (D → Disk) → Run → CheckpointingView D → Type 0
 IsRunCheckpointing disk r c = IsCheckpointUnderway disk c × IsRunAt (disk c.disk) c.standing r × (r.underway ≡ [])
 
--- a run after a step of a checkpoint: it is still on its way, or done; a disk that failed leaves it a run (own)
+-- a run after a step of a checkpoint: the checkpoint is still being written, or is done; after a disk fault it
+-- is still a run (own)
 abbrev pub HasCheckpointed : {D : Type 0} → (D → Disk) → Run → CheckpointProgress D → Type 0
 HasCheckpointed disk r (More checkpointing) = IsRunCheckpointing disk r checkpointing
 HasCheckpointed disk r (Done journal) = IsRunAtRest disk r journal

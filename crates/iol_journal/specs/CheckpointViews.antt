@@ -1,4 +1,4 @@
--- A checkpoint on its way as contracts see it.
+-- A checkpoint that is being written, as contracts see it.
 use Rattle.std.specs.Prelude.{List, Some, unwrap_or}
 use Rattle.iol_disk.specs.Calls.{Call}
 use Rattle.iol_disk.specs.Disk.{Disk}
@@ -10,19 +10,19 @@ use Rattle.iol_layout.specs.Meaning.{Standing}
 use Rattle.iol_journal.specs.declared.history.History.{History}
 use Rattle.iol_journal.specs.Pauses.{end_in, calls_of, IsDrawnUp}
 
--- a checkpoint on its way as contracts see it: the disk, how the journal stands and what it has done, and how far the
--- checkpoint is (own)
+-- a checkpoint that is being written, as contracts see it: the disk, the journal's standing and history, and how far
+-- the checkpoint is (own)
 pub record CheckpointingView (D : Type 0) : Type 0 where
   pub disk : D
   pub standing : Standing
   pub history : History
   pub begun : BegunView
 
--- the checkpoint that a journal at rest is to go on with: the one that is paused, or a new one (own)
+-- the checkpoint that comes next for a journal at rest: the paused one, or a new one (own)
 abbrev pub begun_in : {D : Type 0} → JournalView D → BegunView
 begun_in j = unwrap_or j.begun (new_begun j.standing j.idle)
 
--- a journal with a checkpoint before its next disk call: the one that is paused, or a new one (own)
+-- a journal with a checkpoint before its next disk call: the paused one, or a new one (own)
 abbrev pub checkpoint_of : {D : Type 0} → JournalView D → CheckpointingView D
 checkpoint_of j = record { disk = j.disk; standing = j.standing; history = j.history; begun = begun_in j }
 
@@ -36,14 +36,14 @@ paused_in c = record {
   begun = Some c.begun;
 }
 
--- how the journal stands once the checkpoint is done (own)
+-- the journal's standing once the checkpoint is done (own)
 abbrev pub end_of : {D : Type 0} → CheckpointingView D → Standing
 end_of c = end_in c.standing c.begun
 
--- the disk calls that a checkpoint on its way still makes (own)
+-- the disk calls that a checkpoint still makes (own)
 abbrev pub stages_left : {D : Type 0} → CheckpointingView D → List Call
 stages_left c = calls_of c.standing c.begun
 
--- a checkpoint is on its way on an honest disk: what its stage says holds (own)
+-- a checkpoint is being written: if the disk is honest, what its stage says holds (own)
 abbrev pub IsCheckpointUnderway : {D : Type 0} → (D → Disk) → CheckpointingView D → Type 0
 IsCheckpointUnderway disk c = IsDrawnUp (disk c.disk) c.standing c.begun

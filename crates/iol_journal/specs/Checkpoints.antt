@@ -1,4 +1,4 @@
--- A checkpoint: its disk calls in their order.
+-- The disk calls of a checkpoint, in order.
 use Rattle.std.specs.Prelude.{◌≡◌, ◌≤◌, ◌<◌, ℕ, ◌+◌, ◌-◌, nat_lt, Bool, true, false}
 use Rattle.std.specs.Prelude.{if◌then◌else◌, List, [], ◌∷◌, ◌++◌, length, map, drop, slice_get, Option, Some, None, unwrap_or}
 use Rattle.std.specs.List.{range_with_len}
@@ -23,8 +23,7 @@ use Rattle.iol_journal.specs.declared.stage.CheckpointStage.TheVariants.{ClearHe
 use Rattle.iol_journal.specs.declared.stage.CheckpointStage.TheVariants.{CloseSlot, SyncSlots}
 use Rattle.iol_journal.specs.declared.stage.CheckpointStage.TheVariants.{WriteHeader, WriteRecord, SyncRecords, Carry, OpenGate, SyncOpen}
 
--- how a journal stands in the other area, in the layout that is written, under the next epoch, with this log there: what a
--- checkpoint writes (own)
+-- the standing that a checkpoint writes: in the other area, in the newest layout, under the next epoch, with this log (own)
 abbrev pub target : Standing → Log → Standing
 target s log = record {
   layout = renewed s.layout;
@@ -35,40 +34,40 @@ target s log = record {
   state = log.state;
 }
 
--- the log of an area whose records are those of a journal, with no batch behind them (own)
+-- the log of an area that has a journal's records, with no batch after them (own)
 abbrev pub fresh_log : Standing → Log
 fresh_log s = record { used = 0; number = s.number; state = s.state }
 
--- how a journal stands after a checkpoint beside which no batch is written: in the other area, under the next epoch, with no
--- slot used, at the same number and state (own)
+-- the standing after a checkpoint during which no batch was written: in the other area, under the next epoch, with no slot
+-- used, at the same number and state (own)
 abbrev pub checkpointed : Standing → Standing
 checkpointed s = target s (fresh_log s)
 
--- a log with a batch more (own)
+-- a log with one more batch (own)
 abbrev pub log_with : Log → List CommandValue → Log
 log_with log batch = record { used = log.used + slots_for batch; number = log.number + length batch; state = after log.state batch }
 
--- the first of the batches that are owed; no command where none is (own)
+-- the first owed batch; no commands if none is owed (own)
 abbrev pub first_of : List (List CommandValue) → List CommandValue
 first_of [] = []
 first_of (batch ∷ batches) = batch
 
--- the batches that are owed behind the first; none where none is (own)
+-- the owed batches after the first; none if none is owed (own)
 abbrev pub behind_first : {A : Type 0} → List A → List A
 behind_first [] = []
 behind_first (batch ∷ batches) = batches
 
--- how a journal stands in the same area with this log (own)
+-- the standing in the same area with this log (own)
 abbrev pub with_log : Standing → Log → Standing
 with_log t log =
     record { layout = t.layout; area = t.area; epoch = t.epoch; used = log.used; number = log.number; state = log.state }
 
--- how a journal stands after batches (own)
+-- the standing after batches (own)
 abbrev pub with_batches : Standing → List (List CommandValue) → Standing
 with_batches t [] = t
 with_batches t (batch ∷ batches) = with_batches (with_batch t batch) batches
 
--- the header of an area that is written: its epoch, the number of commands so far, and its version (format, Orders of disk
+-- the header that is written to an area: its epoch, the number of commands so far, and its version (format, Orders of disk
 -- calls)
 abbrev pub header_of_target : Standing → Header
 header_of_target t = record { epoch = t.epoch; base = t.number; version = Some t.layout.version }
@@ -77,8 +76,8 @@ header_of_target t = record { epoch = t.epoch; base = t.number; version = Some t
 abbrev pub snapshot_writes : Standing → List Call
 snapshot_writes t = port_writes t.layout t.area 0 t.state
 
--- where the header of the area is not older, it is made so first: a closed gate that a stop tears may be open (format, Orders
--- of disk calls)
+-- if the header of the area is not older, it is made so first, because a write of the closed gate that a power stop tears may
+-- leave it open (format, Orders of disk calls)
 abbrev pub clearing_calls : Standing → Idle → List Call
 clearing_calls t Older = []
 clearing_calls t Closed = header_write t.layout t.area 0 0 ∷ sync ∷ []
@@ -95,12 +94,12 @@ open_write t = write (gate_at t.layout t.area) open_gate
 abbrev pub gate_calls : Standing → List Call
 gate_calls t = open_write t ∷ sync ∷ []
 
--- the batches that are owed, each as a batch is written, in the first free slots (format, Orders of disk calls)
+-- the calls that carry the owed batches, each written as a batch into the first free slots (format, Orders of disk calls)
 abbrev pub carry_calls : Standing → List (List CommandValue) → List Call
 carry_calls t [] = []
 carry_calls t (batch ∷ batches) = batch_calls t batch ++ carry_calls (with_batch t batch) batches
 
--- once all records are written: sync, the batches that are owed, the open gate, sync (format, Orders of disk calls)
+-- once all records are written: sync, the owed batches, the open gate, sync (format, Orders of disk calls)
 abbrev pub last_calls : Standing → List (List CommandValue) → List Call
 last_calls t owed = sync ∷ (carry_calls t owed ++ gate_calls t)
 
@@ -113,12 +112,12 @@ abbrev pub checkpoint_calls : Standing → List (List CommandValue) → Idle →
 checkpoint_calls t owed idle =
     clearing_calls t idle ++ (close_write t ∷ sync ∷ (slot_writes t.layout t.area ++ snapshot_calls t owed))
 
--- the stage that a checkpoint begins with, as the other area is harmless (format, Orders of disk calls)
+-- the first stage of a checkpoint, which depends on what makes the other area harmless (format, Orders of disk calls)
 abbrev pub first_stage : Idle → CheckpointStage
 first_stage Older = CloseGate
 first_stage Closed = ClearHeader
 
--- a checkpoint that is new: no batch is owed to it (own)
+-- a new checkpoint: no batch is owed (own)
 abbrev pub new_begun : Standing → Idle → BegunView
 new_begun s idle = record { log = fresh_log s; owed = []; stage = first_stage idle }
 
@@ -137,17 +136,17 @@ call_at t owed (Carry p) = call_of t (body_for t (first_of owed)) p
 call_at t owed OpenGate = open_write t
 call_at t owed SyncOpen = sync
 
--- the stage behind the records or behind a batch, with so many batches owed (format, Orders of disk calls)
+-- the stage after the records or after a batch, with `owed` batches owed (format, Orders of disk calls)
 abbrev pub next_batch : ℕ → CheckpointStage
 next_batch owed = if nat_lt 0 owed then Carry (Body 0) else OpenGate
 
--- the stage behind a call of a batch, which is the first of so many that are owed (format, Orders of disk calls)
+-- the stage after a call of a batch, the first of `owed` owed batches (format, Orders of disk calls)
 abbrev pub next_carry : Option Phase → ℕ → CheckpointStage
 next_carry (Some p) owed = Carry p
 next_carry None owed = next_batch (owed - 1)
 
--- the stage behind a stage, with so many slots, sectors of records, sectors of the first batch that is owed, and batches
--- owed (format, Orders of disk calls)
+-- the stage after a stage, for these numbers of slots, sectors of records, sectors of the first owed batch, and owed batches
+-- (format, Orders of disk calls)
 abbrev pub next_stage : ℕ → ℕ → ℕ → ℕ → CheckpointStage → Option CheckpointStage
 next_stage slots records sectors owed ClearHeader = Some SyncHeader
 next_stage slots records sectors owed SyncHeader = Some CloseGate
@@ -162,7 +161,7 @@ next_stage slots records sectors owed (Carry p) = Some (next_carry (next_phase s
 next_stage slots records sectors owed OpenGate = Some SyncOpen
 next_stage slots records sectors owed SyncOpen = None
 
--- a stage of a checkpoint of so many slots, sectors of records, sectors of the first batch that is owed, and batches owed
+-- a stage of a checkpoint, for these numbers of slots, sectors of records, sectors of the first owed batch, and owed batches
 -- (format, Orders of disk calls)
 abbrev pub IsStage : ℕ → ℕ → ℕ → ℕ → CheckpointStage → Type 0
 IsStage slots records sectors owed (CloseSlot k) = k < slots
@@ -177,14 +176,14 @@ abbrev pub is_carried : CheckpointStage → Bool
 is_carried (Carry SyncGate) = true
 is_carried stage = false
 
--- the log behind the disk call of a stage: a batch whose open gate is durable is in it, and owed no more (own)
+-- the log after the disk call of a stage: a batch whose open gate is durable moves from the owed ones to the log (own)
 abbrev pub log_behind : Log → List (List CommandValue) → CheckpointStage → Log
 log_behind log owed stage = if is_carried stage then log_with log (first_of owed) else log
 
 abbrev pub owed_behind : {A : Type 0} → List A → CheckpointStage → List A
 owed_behind owed stage = if is_carried stage then behind_first owed else owed
 
--- the disk calls of the first batch that is owed, from a phase on, and of those behind it (format, Orders of disk calls)
+-- the disk calls of the first owed batch from a phase on, and of the batches after it (format, Orders of disk calls)
 abbrev pub carry_calls_from : Standing → List CommandValue → List (List CommandValue) → Phase → List Call
 carry_calls_from t batch batches p =
     calls_from t (body_for t batch) (sectors_for t batch) p ++ (carry_calls (with_batch t batch) batches ++ gate_calls t)

@@ -1,4 +1,4 @@
--- What holds of the area that a checkpoint writes, and of an honest disk before each disk call.
+-- What holds of the area that a checkpoint writes, and of an honest disk, before each disk call.
 use Rattle.std.specs.Prelude.{◌≡◌, ◌≢◌, ◌≤◌, ◌<◌, ℕ, Bool, true, false, ◌&&◌, List, [], ◌∷◌, ◌++◌, length, take, Option}
 use Rattle.std.specs.Option.{option_map}
 use Rattle.iol_types.specs.Command.{CommandValue}
@@ -27,43 +27,43 @@ use Rattle.iol_journal.specs.declared.stage.CheckpointStage.TheVariants.{ClearHe
 use Rattle.iol_journal.specs.declared.stage.CheckpointStage.TheVariants.{CloseSlot, SyncSlots}
 use Rattle.iol_journal.specs.declared.stage.CheckpointStage.TheVariants.{WriteHeader, WriteRecord, SyncRecords, Carry, OpenGate, SyncOpen}
 
--- the first slots of the area are closed, so many (own)
+-- the first `k` slots of the area are closed (own)
 abbrev pub AreShut : Standing → ℕ → Image → Type 0
 AreShut t k image = (j : ℕ) → j < k → is_open (image (slot_at t.layout t.area j)) ≡ false
 
--- all slots of the area are closed, its header is written, and so many sectors of records (own)
+-- all slots of the area are closed, and its header and `records` sectors of records are written (own)
 pub record IsPrepared (t : Standing) (records : ℕ) (image : Image) : Type 0 where
   pub shut : AreShut t t.layout.slots image
   pub head : header_of (image (header_at t.layout t.area)) ≡ header_of_target t
   pub written : HasWrites (take records (snapshot_writes t)) image
 
--- with the gate of its area open, an image that is otherwise as what is read stands so and can go on (own)
+-- an image that has the area's gate open, and is otherwise what is read, is kept with this standing (own)
 abbrev pub OpensTo : ℕ → Standing → Content → Type 0
 OpensTo size t c =
     (image : Image) → ((i : ℕ) → i ≢ gate_at t.layout t.area → image i ≡ reads c i) → is_open (image (gate_at t.layout t.area)) ≡ true
     → IsKeptAs size t Older image
 
--- an image while the gate of the area is on its way: with the gate closed the journal stands as before, with the gate open as
--- after the checkpoint (own)
+-- an image while the gate of the area is being written: with the gate closed it has the standing before the checkpoint, with
+-- the gate open the one after it (own)
 abbrev pub IsTurning : ℕ → Standing → Standing → Image → Type 0
 IsTurning size s t image =
     (is_open (image (gate_at t.layout t.area)) ≡ false → IsKeptAs size s Closed image)
     × (is_open (image (gate_at t.layout t.area)) ≡ true → IsKeptAs size t Older image)
 
--- how the area is harmless before the disk call of each stage (own)
+-- what makes the area harmless before the disk call of each stage (own)
 abbrev pub idle_at : CheckpointStage → Idle
 idle_at CloseGate = Older
 idle_at SyncClosed = Older
 idle_at stage = Closed
 
--- what is read of the first free slots while a batch is carried into them, behind the closed gate of the area (own)
+-- what is read of the first free slots while a batch is carried into them and the gate of the area is closed (own)
 abbrev pub CarryHolds : ℕ → Standing → List CommandValue → Phase → Content → Type 0
 CarryHolds size t batch (Body j) c = OpensTo size t c × HasWritten t (body_for t batch) j c
 CarryHolds size t batch SyncBody c = OpensTo size t c × HasWritten t (body_for t batch) (sectors_for t batch) c
 CarryHolds size t batch Gate c = OpensTo size t c × HasWritten t (body_for t batch) (sectors_for t batch) c
 CarryHolds size t batch SyncGate c = OpensTo size (with_batch t batch) c
 
--- what is read of the area before the disk call of each stage; batches in the area in use leave it so (own)
+-- what is read of the area before the disk call of each stage; batches written to the area in use do not change it (own)
 abbrev pub AreaHolds : ℕ → Standing → List (List CommandValue) → CheckpointStage → Content → Type 0
 AreaHolds size t owed ClearHeader c = Unit {0}
 AreaHolds size t owed SyncHeader c = (header_of (reads c (header_at t.layout t.area))).epoch ≡ 0
@@ -82,20 +82,19 @@ AreaHolds size t owed SyncOpen c = Unit {0}
 abbrev pub MeansSame : Standing → Standing → Type 0
 MeansSame t s = (t.number ≡ s.number) × (t.state ≡ s.state)
 
--- what holds of the content before the disk call of each stage of a checkpoint of the first standing, which writes the second
--- (own)
+-- what holds of the content before the disk call of each stage of a checkpoint from the first standing to the second (own)
 abbrev pub StageHolds : ℕ → Standing → Standing → List (List CommandValue) → CheckpointStage → Content → Type 0
 StageHolds size s t owed OpenGate c = EachImage c (IsKeptAs size s Closed) × OpensTo size t c × IsSettled c
 StageHolds size s t owed SyncOpen c =
     EachImage c (IsTurning size s t) × IsKeptAs size t Older (reads c) × MeansSame t s
 StageHolds size s t owed stage c = EachImage c (IsKeptAs size s (idle_at stage)) × AreaHolds size t owed stage c
 
--- the stage behind that of a checkpoint which writes this area, with these batches owed (own)
+-- the next stage of a checkpoint that writes this area, with these batches owed (own)
 abbrev pub stage_behind : Standing → List (List CommandValue) → CheckpointStage → Option CheckpointStage
 stage_behind t owed stage =
     next_stage t.layout.slots (length (snapshot_writes t)) (sectors_for t (first_of owed)) (length owed) stage
 
--- a checkpoint behind its next disk call; none where that is its last one (own)
+-- a checkpoint after its next disk call; `None` if that is its last one (own)
 abbrev pub begun_behind : Standing → BegunView → Option BegunView
 begun_behind s b =
     option_map (λ stage. record { log = log_behind b.log b.owed b.stage; owed = owed_behind b.owed b.stage; stage = stage })
@@ -106,17 +105,16 @@ abbrev pub can_pause : CheckpointStage → Bool
 can_pause SyncOpen = false
 can_pause stage = true
 
--- a checkpoint of a journal that stands so may be paused: its layout is the one that is written, and the gate of the other area
--- is not yet written (own)
+-- a checkpoint may be paused: the journal has the newest layout, and the gate of the other area is not yet written (own)
 abbrev pub may_pause : Standing → CheckpointStage → Bool
 may_pause s stage = is_renewed s.layout && can_pause stage
 
--- the stage where a batch more is owed (own)
+-- the stage once one more batch is owed (own)
 abbrev pub owing : CheckpointStage → CheckpointStage
 owing OpenGate = Carry (Body 0)
 owing stage = stage
 
--- a checkpoint to which a batch more is owed (own)
+-- a checkpoint with one more owed batch (own)
 abbrev pub with_owed : List CommandValue → BegunView → BegunView
 with_owed batch b = record { log = b.log; owed = b.owed ++ batch ∷ []; stage = owing b.stage }
 
@@ -132,12 +130,12 @@ pub record IsFresh (t : Standing) : Type 0 where
   pub none : t.used ≡ 0
   pub records : AreRecords t.layout t.area t.state
 
--- each batch can be written behind those before it (own)
+-- each batch can be written after those before it (own)
 abbrev pub AreOwed : Standing → List (List CommandValue) → Type 0
 AreOwed t [] = Unit {0}
 AreOwed t (batch ∷ batches) = CanFollow t batch × AreOwed (with_batch t batch) batches
 
--- What holds of a checkpoint of the first standing, which writes the second, on any disk (own)
+-- what holds of a checkpoint from the first standing to the second, on any disk (own)
 pub record IsDrafted (d : Disk) (s t : Standing) (owed : List (List CommandValue)) (stage : CheckpointStage) : Type 0 where
   pub laid_out : IsLayout s.layout
   pub some : 1 ≤ t.layout.slots
@@ -145,6 +143,6 @@ pub record IsDrafted (d : Disk) (s t : Standing) (owed : List (List CommandValue
   pub fresh : IsSnapshot stage → IsFresh t
   pub in_stage : IsStage t.layout.slots (length (snapshot_writes t)) (sectors_for t (first_of owed)) (length owed) stage
   pub owed_are : AreOwed t owed
-  -- behind the batches that are owed the area is at the journal's number and state, in no more slots
+  -- after the owed batches the area is at the journal's number and state, and uses no more slots
   pub same : MeansSame (with_batches t owed) s
   pub slots : (with_batches t owed).used ≤ s.used

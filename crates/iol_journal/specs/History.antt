@@ -1,4 +1,4 @@
--- What a history is read off.
+-- How a history is made from given values.
 use Rattle.std.specs.Prelude.{◌+◌, [], length}
 use Rattle.iol_types.specs.State.{after}
 use Rattle.iol_layout.specs.Body.{values}
@@ -7,12 +7,14 @@ use Rattle.iol_journal.specs.declared.history.History.{History}
 use Rattle.iol_journal.specs.declared.history.Source.{Source}
 use Rattle.iol_journal.specs.declared.history.Source.TheVariants.{Begun, Continued, Ended, Alone}
 
--- a history that begins where another one leads to, behind the commands of a third (own)
+-- an empty history that begins where the first leads to, followed by the commands of the second
+-- (own)
 abbrev pub ended_behind : History → History → History
 ended_behind history batch =
     record { first = history.first + length batch.commands; start = after history.start batch.commands; commands = [] }
 
--- the history of a journal that was just recovered, or of one to which a batch more is written (own)
+-- the history for each source: after recovery, with one more batch, as an empty one after a batch,
+-- or with only the commands of a batch (own)
 abbrev pub history_of : Source → History
 history_of (Begun number state) = record { first = number; start = state.now; commands = [] }
 history_of (Continued history batch) = written_behind history.now (values batch.now.commands.items)

@@ -1,4 +1,4 @@
--- What contracts see of a journal, of a batch on its way, and of what their calls answer.
+-- A journal, and a batch that is being written, as contracts see them.
 use Rattle.std.specs.Prelude.{List, Option}
 use Rattle.iol_types.specs.Command.{CommandValue}
 use Rattle.iol_journal.specs.BegunViews.{BegunView}
@@ -10,8 +10,8 @@ use Rattle.iol_journal.specs.declared.phase.Phase.TheVariants.{Body}
 use Rattle.iol_disk.specs.Calls.{Call}
 use Rattle.iol_journal.specs.Batches.{body_for, sectors_for, calls_from}
 
--- a journal as contracts see it: its disk, how it stands, how the other area is harmless, what it has done since it was
--- recovered, and the checkpoint that is paused, if one is (own)
+-- a journal as contracts see it: its disk, its standing, what makes the other area harmless, its history since
+-- recovery, and the paused checkpoint, if one is paused (own)
 pub record JournalView (D : Type 0) : Type 0 where
   pub disk : D
   pub standing : Standing
@@ -19,16 +19,16 @@ pub record JournalView (D : Type 0) : Type 0 where
   pub history : History
   pub begun : Option BegunView
 
--- a batch on its way as contracts see it: the disk, how the journal stood before it, its commands and its next disk
--- call (own)
+-- a batch that is being written, as contracts see it: the disk, the journal's standing before it, its commands and its
+-- next disk call (own)
 pub record WritingView (D : Type 0) : Type 0 where
   pub disk : D
   pub standing : Standing
   pub idle : Idle
-  -- what the journal had done before the batch, and the checkpoint that is paused beside it
+  -- what the journal had done before the batch, and the checkpoint that is paused meanwhile
   pub history : History
   pub begun : Option BegunView
-  -- the commands of the batch, and the disk call that comes next
+  -- the commands of the batch, and the next disk call
   pub commands : List CommandValue
   pub phase : Phase
 
@@ -44,6 +44,6 @@ writing_of j commands = record {
   phase = Body 0;
 }
 
--- the disk calls that a batch on its way still makes (own)
+-- the disk calls that a batch still makes (own)
 abbrev pub calls_left : {D : Type 0} → WritingView D → List Call
 calls_left w = calls_from w.standing (body_for w.standing w.commands) (sectors_for w.standing w.commands) w.phase

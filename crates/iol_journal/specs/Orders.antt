@@ -1,4 +1,4 @@
--- The disk calls of a format, in their order.
+-- The disk calls of a format, in order.
 use Rattle.std.specs.Prelude.{List, [], ◌∷◌, ◌++◌, Result, Ok, Err}
 use Rattle.iol_types.specs.State.{empty_state}
 use Rattle.iol_record.specs.declared.version.Version.{Version}
@@ -24,25 +24,24 @@ gate_writes version g =
 abbrev pub header_writes : Version → Geometry → List Call
 header_writes version g = header_write (laid_out version g) A 1 0 ∷ header_write (laid_out version g) B 0 0 ∷ []
 
--- the writes of an empty journal in a version: the gates of the areas, those of A's slots, the headers, and the records of A's ports,
--- none of which was ever configured (format, Orders of disk calls)
+-- the writes of an empty journal in a version: the geometry and the gates of the areas, the gates of A's slots, the headers, and the
+-- records of A's ports, none of which was ever configured (format, Orders of disk calls)
 abbrev pub journal_writes : Version → Geometry → List Call
 journal_writes version g =
     gate_writes version g ++ slot_writes (laid_out version g) A ++ header_writes version g
     ++ port_writes (laid_out version g) A 0 (empty_state g.ports)
 
--- the gate of the disk is opened once all that was written is durable: sync, open gate, sync (format, Orders of disk
--- calls)
+-- the calls that open the gate of the disk once everything written is durable: sync, open gate, sync (format, Orders of disk calls)
 abbrev pub opening_calls : List Call
 opening_calls = sync ∷ write DISK_GATE open_gate ∷ sync ∷ []
 
--- the disk calls of a format, reads apart: a sync, the writes of an empty journal, and the opening of the disk's gate
--- (format, Orders of disk calls)
+-- the disk calls of a format, apart from reads: a sync, the writes of an empty journal, and the opening of the disk's gate (format,
+-- Orders of disk calls)
 abbrev pub format_calls : Version → Geometry → List Call
 format_calls version g = sync ∷ (journal_writes version g ++ opening_calls)
 
--- a format made these calls: all where it succeeds, none or the first sync alone where it refuses, and else those up
--- to the one that failed (format, Orders of disk calls)
+-- a format made these calls: all if it succeeds, none or only the first sync if it is refused, and otherwise those up to the one that
+-- failed (format, Orders of disk calls)
 abbrev pub MakesFormat : Version → Geometry → Disk → Disk → Result Unit FormatFault → Type 0
 MakesFormat version g old new (Ok done) = Made (format_calls version g) old new
 MakesFormat version g old new (Err TooSmall) = Made [] old new

@@ -1,4 +1,4 @@
--- A checkpoint that was begun: the calls that it still makes, and what holds of the disk beside it.
+-- A begun checkpoint: the calls that it still makes, and what holds of the disk while it is paused.
 use Rattle.std.specs.Prelude.{IsTrue, List, Option, IfSome}
 use Rattle.iol_disk.specs.Calls.{Call}
 use Rattle.iol_disk.specs.Disk.{Disk}
@@ -7,8 +7,7 @@ use Rattle.iol_journal.specs.Checkpoints.{target, with_batches, stage_calls}
 use Rattle.iol_journal.specs.Drafts.{AreaHolds, StageHolds}
 use Rattle.iol_layout.specs.Meaning.{Standing}
 
--- how a journal stands once a checkpoint of it is done: in the other area, with the batches that were carried and those that
--- are owed (own)
+-- the standing of a journal once its checkpoint is done: in the other area, with the carried and the owed batches (own)
 abbrev pub end_in : Standing → BegunView → Standing
 end_in s b = with_batches (target s b.log) b.owed
 
@@ -16,16 +15,16 @@ end_in s b = with_batches (target s b.log) b.owed
 abbrev pub calls_of : Standing → BegunView → List Call
 calls_of s b = stage_calls (target s b.log) b.owed b.stage
 
--- what the stage of a checkpoint says holds of an honest disk (own)
+-- if the disk is honest, what the stage of a checkpoint says holds of it (own)
 abbrev pub IsDrawnUp : Disk → Standing → BegunView → Type 0
 IsDrawnUp d s b = IsTrue d.honest → StageHolds d.sectors s (target s b.log) b.owed b.stage d.content
 
--- beside a journal at rest a checkpoint may be paused: what its stage says holds (own)
+-- if a checkpoint is paused while the journal is at rest, what its stage says holds (own)
 abbrev pub IsPaused : Disk → Standing → Option BegunView → Type 0
 IsPaused d s begun = IfSome begun (IsDrawnUp d s)
 
--- beside a batch on its way a checkpoint may be paused: what is read of the area that it writes is as its stage says, of an honest
--- disk (own)
+-- if a checkpoint is paused while a batch is being written, an honest disk reads as its stage says in the area that it writes
+-- (own)
 abbrev pub IsBeside : Disk → Standing → Option BegunView → Type 0
 IsBeside d s begun =
     IfSome begun (λ b. IsTrue d.honest → AreaHolds d.sectors (target s b.log) b.owed b.stage d.content)

@@ -13,15 +13,16 @@ use Rattle.iol_layout.specs.declared.idle.Idle.{Idle}
 use Rattle.iol_journal.specs.declared.phase.Phase.{Phase}
 use Rattle.iol_journal.specs.declared.phase.Phase.TheVariants.{Body, SyncBody, Gate, SyncGate}
 
--- a journal is at rest: whatever a stop of its honest disk leaves now, it stands so on it, and can go on (own)
+-- a journal is at rest: each image that a power stop of an honest disk may leave is kept with this standing (own)
 abbrev pub IsAtRest : Disk → Standing → Idle → Type 0
 IsAtRest d s idle = IsTrue d.honest → EachImage d.content (IsKeptAs d.sectors s idle)
 
--- so many sectors of the body are written, from the first free slot on (own)
+-- the first `n` sectors of the body are written, from the first free slot on (own)
 abbrev pub HasWritten : Standing → List ℕ → ℕ → Content → Type 0
 HasWritten s body n c = (j : ℕ) → j < n → reads c (body_at s.layout s.area s.used j) ≡ sector_of body j
 
--- an image while the gate is on its way: with the gate open the slot counts, with the gate closed it does not (own)
+-- an image while the gate of a slot is being written: with the gate open the batch counts, with the gate closed it
+-- does not (own)
 abbrev pub IsBetween : ℕ → Standing → Idle → List CommandValue → Image → Type 0
 IsBetween sectors s idle commands image =
     (is_open (image (slot_at s.layout s.area s.used)) ≡ false → IsKeptAs sectors s idle image)

@@ -1,4 +1,4 @@
--- A batch that follows a journal, and what is written of it.
+-- A batch that follows a journal, and its encoded form.
 use Rattle.std.specs.Prelude.{◌≡◌, ◌≤◌, ◌+◌, true, List, ◌++◌, length}
 use Rattle.iol_types.specs.Command.{CommandValue}
 use Rattle.iol_types.specs.State.{after, legal}
@@ -15,7 +15,7 @@ use Rattle.iol_layout.specs.declared.header.TheConstants.{LAST_NUMBER}
 use Rattle.iol_journal.specs.Batches.{IsPhase, body_for, sectors_for}
 use Rattle.iol_layout.specs.Body.{IsBatch, slots_for}
 
--- the commands of a history lead from what recovery found to where the journal stands (own)
+-- the commands of a history lead from the number and state that recovery found to the journal's own (own)
 pub record LeadsTo (s : Standing) (history : History) : Type 0 where
   pub number : s.number ≡ history.first + length history.commands
   pub state : s.state ≡ after history.start history.commands
@@ -24,8 +24,8 @@ pub record LeadsTo (s : Standing) (history : History) : Type 0 where
 abbrev pub written_behind : History → List CommandValue → History
 written_behind history commands = record history { commands = history.commands ++ commands }
 
--- a batch that can be written behind a journal that stands so: its layout is the one that is written, the free slots hold it,
--- and each command passes (own)
+-- a batch can be written to a journal with this standing: the layout is the newest, the free slots hold the batch, and each
+-- command passes (own)
 pub record CanFollow (s : Standing) (commands : List CommandValue) : Type 0 where
   pub written : s.layout.version ≡ newest
   pub room : s.used + slots_for commands ≤ s.layout.slots
@@ -33,7 +33,7 @@ pub record CanFollow (s : Standing) (commands : List CommandValue) : Type 0 wher
   pub passes : legal s.state commands ≡ true
   pub bound : s.number + length commands ≤ LAST_NUMBER
 
--- What holds of a batch on its way, on any disk (own)
+-- what holds of a batch that is being written, on any disk (own)
 pub record IsPlanned (d : Disk) (s : Standing) (commands : List CommandValue) (phase : Phase) : Type 0 where
   pub laid_out : IsLayout s.layout
   pub fits : total s.layout ≤ d.sectors
@@ -42,13 +42,13 @@ pub record IsPlanned (d : Disk) (s : Standing) (commands : List CommandValue) (p
   pub begun : s.epoch ≤ s.number + epochs_ahead s.layout.version
   pub count : length s.state ≡ s.layout.ports
 
--- a batch as it is written behind a journal that stands so (own)
+-- a batch as it is encoded for a journal with this standing (own)
 pub record IsEncoded (s : Standing) (commands : List CommandValue) (body : EncodedBatch) : Type 0 where
   pub octets : body.octets.items ≡ body_for s commands
   pub span : body.span ≡ slots_for commands
   pub sectors : body.sectors ≡ sectors_for s commands
 
--- A plan has the body of the batch, and the state behind it (own)
+-- a plan has the body of the batch and the state after it (own)
 pub record IsPlan (s : Standing) (commands : List CommandValue) (plan : Plan) : Type 0 where
   pub body : IsEncoded s commands plan.body
   pub next : plan.next ≡ after s.state commands

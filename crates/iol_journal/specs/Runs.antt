@@ -1,4 +1,4 @@
--- A run of a journal: the commands that it accepts, batches that write them, checkpoints between, and what was
+-- A run of a journal: the commands that it accepts, the batches that write them, the checkpoints between, and what was
 -- acknowledged when.
 use Rattle.std.specs.Prelude.{◌≡◌, ◌≤◌, ℕ, ◌+◌, true, IsTrue, List, [], ◌∷◌, ◌++◌, length, take, All}
 use Rattle.iol_types.specs.Command.{CommandValue}
@@ -12,8 +12,8 @@ pub record Mark : Type 0 where
   pub clock : ℕ
   pub acknowledged : ℕ
 
--- a run: the number and the state that it began with, and the commands that it has accepted, in their order: written
--- ones, those of the batch that is underway, and those queued behind it; and moments of it (own)
+-- a run: the number and the state that it began with; the commands that it has accepted, in order: the written ones, those of
+-- the batch underway, and those queued after it; and its moments (own)
 pub record Run : Type 0 where
   pub first : ℕ
   pub start : State
@@ -22,7 +22,7 @@ pub record Run : Type 0 where
   pub queued : List CommandValue
   pub marks : List Mark
 
--- all commands that a run has accepted, in their order (own)
+-- all commands that a run has accepted, in order (own)
 abbrev pub accepted : Run → List CommandValue
 accepted r = r.written ++ (r.underway ++ r.queued)
 
@@ -33,23 +33,23 @@ number_of r = r.first + length r.written
 abbrev pub state_of : Run → State
 state_of r = after r.start r.written
 
--- an image is kept, and means the state after the first of these commands, on top of a number and a state: so many
--- that all up to the least number are among them (own)
+-- an image is kept, and means the start number and state after a prefix of these commands that includes all commands up to
+-- the number `least` (own)
 pub record HasPrefix (sectors first : ℕ) (start : State) (commands : List CommandValue) (least : ℕ) (image : Image) : Type 0 where
   pub count : ℕ
   pub within : count ≤ length commands
   pub reaches : least ≤ first + count
   pub means : KeptMeans sectors (first + count) (after start (take count commands)) image
 
--- each image of an honest disk since a moment of a run has all that was acknowledged by then, and behind it none but the next
--- commands that the run has accepted, in their order (own)
+-- every image of an honest disk since a moment of a run has all commands acknowledged by then, and after them only the next
+-- accepted commands, in order (own)
 pub record IsMarked (d : Disk) (r : Run) (mark : Mark) : Type 0 where
   pub written : mark.acknowledged ≤ number_of r
   pub passed : IsTrue d.honest → mark.clock ≤ clock d.content
   pub each : IsTrue d.honest → (image : Image) → IsImageSince mark.clock d.content image
       → HasPrefix d.sectors r.first r.start (accepted r) mark.acknowledged image
 
--- a run on a disk: each command passes in the state that it meets, and since each moment a stop leaves what was
+-- a run on a disk: each command passes in the state that it meets, and since each moment a power stop leaves all commands
 -- acknowledged by then (own)
 pub record IsRun (d : Disk) (r : Run) : Type 0 where
   pub passes : legal r.start (accepted r) ≡ true
@@ -66,7 +66,7 @@ begun clock number state = record {
   marks = record { clock = clock; acknowledged = number } ∷ [];
 }
 
--- a run with one moment more (own)
+-- a run with one more moment (own)
 abbrev pub with_mark : Run → Mark → Run
 with_mark r mark = record r { marks = mark ∷ r.marks }
 
@@ -74,7 +74,7 @@ with_mark r mark = record r { marks = mark ∷ r.marks }
 abbrev pub with_commands : Run → List CommandValue → Run
 with_commands r commands = record r { queued = r.queued ++ commands }
 
--- a run whose queued commands are a batch that is underway, and those behind it (own)
+-- a run of whose queued commands the first become the batch underway, and the others stay queued (own)
 abbrev pub with_batch_begun : Run → List CommandValue → List CommandValue → Run
 with_batch_begun r batch behind = record r { underway = batch; queued = behind }
 

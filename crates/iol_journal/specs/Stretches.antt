@@ -1,4 +1,4 @@
--- Batches and checkpoints, one behind the other.
+-- Sequences of batches and checkpoints.
 use Rattle.std.specs.Prelude.{◌≡◌, ℕ, ◌+◌, true, List, [], ◌∷◌, length}
 use Rattle.std.specs.List.{flat_map}
 use Rattle.iol_types.specs.Command.{CommandValue}
@@ -7,13 +7,13 @@ use Rattle.iol_disk.specs.Disk.{Disk}
 use Rattle.iol_disk.specs.Moments.{LeavesOnly}
 use Rattle.iol_layout.specs.Kept.{KeptEither, EachMeans}
 
--- a stretch of disk calls: the commands of the batch that it writes, none where it is a checkpoint, and the disk that
--- it leaves (own)
+-- a stretch of disk calls: the commands of the batch that it writes, none if it is a checkpoint, and the disk that it
+-- leaves (own)
 pub record Stretch : Type 0 where
   pub commands : List CommandValue
   pub disk : Disk
 
--- the commands of stretches, in their order (own)
+-- the commands of stretches, in order (own)
 abbrev pub commands_in : List Stretch → List CommandValue
 commands_in stretches = flat_map (λ s. s.commands) stretches
 
@@ -22,9 +22,9 @@ abbrev pub disk_after : Disk → List Stretch → Disk
 disk_after old [] = old
 disk_after old (s ∷ stretches) = disk_after s.disk stretches
 
--- stretches behind one another: each begins where every image means the number and the state after those before it;
--- its commands pass; and at any moment of it an image is kept, and means the state before them or the state after them.
--- The last one need not have ended (own)
+-- stretches in sequence: each begins on a disk of which every image means the number and the state after those before
+-- it; its commands pass; and at any moment of it an image is kept, and means the state before its commands or after
+-- them. The last one need not have ended (own)
 abbrev pub AreStretches : Disk → ℕ → State → List Stretch → Type 0
 AreStretches old number state [] = Unit {0}
 AreStretches old number state (s ∷ stretches) =

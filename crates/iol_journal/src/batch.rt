@@ -18,7 +18,7 @@ pub struct Batch {
     pub commands: Vec<Command>,
 }
 
-// How many octets the records of commands have.
+// The number of octets of the commands' records.
 fn record_octets(commands: &[Command]) -> usize
     requires { length commands.now ≤ MOST_COMMANDS }
     ensures octets { result ≡ length (records_of (values commands.now)) }
@@ -32,10 +32,10 @@ fn record_octets(commands: &[Command]) -> usize
     octets
 }
 
-/// How many slots a batch takes, if it fits an area of so many.
+/// The number of slots that a batch takes, or `None` if it does not fit an area of `slots` slots.
 pub fn span_within(slots: usize, commands: &[Command]) -> Option<usize>
     ensures some { IfSome result (λ span. (span ≡ slots_for (values commands.now)) × (is_too_large slots (values commands.now) ≡ false)) }
-    // A command takes a slot at most, as its record has 4,118 octets or fewer.
+    // A command takes at most one slot, because its record has at most 4,118 octets.
     ensures few { IfSome result (λ span. 1 ≤ length commands.now → span ≤ length commands.now) }
     ensures none { IfNone result (is_too_large slots (values commands.now) ≡ true) }
 {
@@ -46,11 +46,11 @@ pub fn span_within(slots: usize, commands: &[Command]) -> Option<usize>
     if slots < span { None } else { Some(span) }
 }
 
-/// Applies the commands, if each passes in the state that it meets: whether all did. Where one does not, those before it are
-/// applied.
+/// Applies the commands in order while each passes in the state that it meets, and returns whether all passed. If one does
+/// not, those before it are applied.
 ///
 /// # Errors
-/// Out of memory; some may be applied.
+/// Out of memory; some commands may be applied.
 pub fn apply_all(state: &mut MasterState, commands: &[Command]) -> Result<bool, AllocError>
     ensures legal { IfOk result (λ all. all ≡ legal state.old (values commands.now)) }
     ensures after { IfOk result (λ all. all ≡ true → state.new ≡ after state.old (values commands.now)) }

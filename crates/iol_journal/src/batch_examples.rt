@@ -1,5 +1,4 @@
-//! Facts with values of docs/FORMATS.md, worked out by the check: a number that is wrong in a definition and in the code
-//! alike is refused here.
+//! Worked values from docs/FORMATS.md that the check computes: they catch a number that is wrong both in a definition and in the code.
 
 ghost use Rattle.std.specs.Prelude.{◌≡◌, [], ◌∷◌, replicate};
 ghost use Rattle.iol_types.specs.Command.{Configure};
@@ -13,8 +12,8 @@ ghost use Rattle.iol_journal.specs.Begin.{batch_refusal, room_in};
 
 use crate::refusal::BeginCause;
 
-/// The octets of records that fit the free ones of 3 slots: 8,192 for each, less a head of 22. Where none is free, those of one; and in
-/// an older layout none is.
+/// The record octets that fit the free slots of 3: 8,192 for each, less a head of 22. If none is free, those of one slot; in an older
+/// layout none is free.
 pub fn rooms()
     ensures all_free { room_in (standing_of 0 9) ≡ 24554 }
     ensures two_free { room_in (standing_of 1 9) ≡ 16362 }
@@ -23,14 +22,14 @@ pub fn rooms()
     ensures older { room_in (older_standing_of 0 9) ≡ 8170 }
 {}
 
-/// The disk calls of that batch: one sector of the body, a sync, the open gate, a sync.
+/// The disk calls of the first batch, a Configure of port 1: one sector of the body, a sync, the open gate, a sync.
 #[tactic(auto, unfolding(iol_layout::specs::Body::body_octets, iol_layout::specs::Octets::padded))]
 pub fn the_first_batch()
     ensures { (state : State) → batch_calls (first_standing state) (Configure 1 example_config ∷ [])
         ≡ write 39 first_body ∷ sync ∷ write 38 open_gate ∷ sync ∷ [] }
 {}
 
-/// The order in which batches are refused, and the last number. In an older layout nothing is written.
+/// The order in which batches are refused, and the last number. In an older layout no batch is written.
 pub fn refusals()
     ensures too_large { batch_refusal (standing_of 3 9) 10 (replicate 65 (Configure 1 example_config)) ≡ Some BeginCause.TooLarge }
     ensures no_slot { batch_refusal (standing_of 3 9) 10 [] ≡ Some BeginCause.NeedsCheckpoint }

@@ -1,4 +1,4 @@
-//! A checkpoint that was begun: what it writes into the other area, and how far it is.
+//! A begun checkpoint: what it writes into the other area, and how far it is.
 
 ghost use Rattle.std.specs.Prelude.{◌≡◌, ◌≤◌, ◌<◌, ◌+◌, ◌*◌, true, List, [], ◌∷◌, length, IfOk, OnOk};
 ghost use Rattle.std.specs.VecDeque.{deque_capacity};
@@ -26,7 +26,7 @@ use iol_layout::{AreaPlan, EncodedBatch, Header};
 use std::alloc::AllocError;
 use std::collections::VecDeque;
 
-/// A batch that was written since the checkpoint was begun, as it is to be written into the other area.
+/// A batch that was written after the checkpoint was begun, encoded for the other area.
 #[derive(Drop)]
 pub struct OwedBatch {
     pub body: EncodedBatch,
@@ -34,20 +34,20 @@ pub struct OwedBatch {
     pub batch: History,
 }
 
-/// A checkpoint that was begun.
+/// A begun checkpoint.
 #[derive(Drop)]
 pub struct Begun {
     pub plan: AreaPlan,
     pub stage: CheckpointStage,
-    // the slots of the other area that carried batches take, and the number and the state behind them
+    // the slots of the other area that carried batches take, and the number and the state after them
     pub used: usize,
     pub carried: History,
-    // the batches that are still to be carried, the oldest first
+    // the batches that are still to be carried, oldest first
     pub owed: VecDeque<OwedBatch>,
 }
 
 impl Begun {
-    /// A new checkpoint of a journal that has these parts, before its first disk call. Behind it no slot is used.
+    /// Creates a checkpoint of a journal with these parts, before its first disk call. After the checkpoint no slot is used.
     ///
     /// # Errors
     /// Out of memory.
@@ -58,7 +58,7 @@ impl Begun {
         requires ports { length parts.now.state ≡ parts.now.place.layout.ports }
         ensures view { IfOk result (λ b. view_of b ≡ new_begun (stands parts.now) parts.now.place.idle) }
         ensures begun { IfOk result (λ b. (d : Disk) → IsResting d (stands parts.now) → IsBegun d (stands parts.now) b) }
-        // It makes a disk call for each slot, one for each sector of a port's record, and nine more, at most.
+        // It makes at most one disk call for each slot, one for each sector of a port's record, and nine more.
         ensures at_most { IfOk result (λ b. length (calls_of (stands parts.now) (view_of b))
             ≤ (renewed parts.now.place.layout).slots + record_sectors (renewed parts.now.place.layout) + 9) }
     {
@@ -79,7 +79,7 @@ impl Begun {
         })
     }
 
-    // The sectors of the first batch that is owed, or none.
+    // The number of sectors of the first owed batch, or 0 if none is owed.
     fn first_sectors(&self) -> usize
         ensures some { (first : OwedBatch) (behind : List OwedBatch) → self.now.owed.items ≡ first ∷ behind
             → result ≡ first.body.sectors }
@@ -91,7 +91,7 @@ impl Begun {
         }
     }
 
-    /// The stage behind its disk call, in an area of so many slots.
+    /// The stage after the next disk call, in an area of `slots` slots.
     pub fn next_stage(&self, slots: usize) -> Option<CheckpointStage>
         requires few { slots ≤ 256 }
         requires begun { (d : Disk) × (s : Standing) × IsBegun d s self.now × (slots ≡ (renewed s.layout).slots) }
@@ -103,8 +103,8 @@ impl Begun {
             .next(slots, self.plan.records.len(), sectors, self.owed.len())
     }
 
-    /// Behind its disk call, in an area of so many slots, with the stage that comes next: a batch whose open gate is durable is
-    /// carried.
+    /// The checkpoint after its disk call, at the stage `next`, in an area of `slots` slots: a batch whose open gate is durable
+    /// is carried.
     pub fn moved_to(self, next: CheckpointStage, slots: usize) -> Begun
         requires few { slots ≤ 256 }
         requires begun { (d : Disk) × (s : Standing) × IsBegun d s self × (slots ≡ (renewed s.layout).slots) }
@@ -143,7 +143,7 @@ impl Begun {
         }
     }
 
-    // A batch that was just written is owed, under the epoch of the other area.
+    // Adds a batch that was just written to the owed ones, under the epoch of the other area.
     fn owing(self, body: EncodedBatch, epoch: u64, batch: &Batch) -> Begun
         requires room { length self.owed.items < deque_capacity self.owed }
         requires octets { EPOCH_OCTETS ≤ length body.octets.items }
@@ -170,7 +170,7 @@ impl Begun {
     }
 }
 
-/// A batch that was just written is owed to the checkpoint that is paused, if one is.
+/// Adds a batch that was just written to the owed ones of the paused checkpoint, if one is paused.
 pub fn owing(begun: Option<Begun>, body: EncodedBatch, epoch: u64, batch: &Batch) -> Option<Begun>
     requires room { HasRoom begun }
     requires octets { EPOCH_OCTETS ≤ length body.octets.items }
@@ -182,10 +182,10 @@ pub fn owing(begun: Option<Begun>, body: EncodedBatch, epoch: u64, batch: &Batch
     }
 }
 
-/// Makes room for one batch more that is owed to a checkpoint, if one is paused.
+/// Reserves capacity for one more owed batch, if a checkpoint is paused.
 ///
 /// # Errors
-/// Out of memory; the checkpoint is as it was.
+/// Out of memory; the checkpoint does not change.
 pub fn make_room(begun: &mut Option<Begun>) -> Result<(), AllocError>
     ensures same { AreSame begun.old begun.new }
     ensures room { OnOk result (HasRoom begun.new) }

@@ -12,10 +12,10 @@ use crate::phase::Phase;
 use iol_disk::{DiskFault, SECTOR_OCTETS, SectorDisk};
 use iol_layout::{EncodedBatch, Place};
 
-/// Makes the disk call of a phase, where a body is written from the first free slot on.
+/// Makes the disk call of this phase of a batch, whose body is written from the first free slot on.
 ///
 /// # Errors
-/// `Write` or `Sync`, where the disk fails.
+/// `Write` or `Sync` if the disk fails.
 pub fn make<D: SectorDisk>(
     disk: &mut D,
     place: &Place,

@@ -1,4 +1,4 @@
-//! The checkpoint of a journal at rest: a new one, or the one that is paused.
+//! The checkpoint of a journal at rest: a new one, or the paused one.
 
 use crate::begun::Begun;
 use crate::checkpointing::Checkpointing;
@@ -18,31 +18,30 @@ impl<D: SectorDisk> Journal<D> {
     ghost use Rattle.iol_journal.specs.Phases.{IsAtRest};
     ghost use Rattle.iol_layout.specs.Layout.{is_renewed, renewed, record_sectors};
 
-    /// Makes a checkpoint ready, which writes the newest layout and frees all slots but those of the batches that are written
-    /// while it is paused; or goes on
-    /// with the one that is paused, without memory. Its steps take no memory.
+    /// Prepares a checkpoint, which writes the newest layout and frees all slots except those of batches written while it is
+    /// paused. If a checkpoint is paused, continues that one without allocating. The steps allocate no memory.
     ///
     /// # Errors
-    /// Out of memory, where none is paused; the journal is handed back.
+    /// Out of memory, only if none is paused; the journal is returned.
     pub fn checkpoint(self) -> Result<Checkpointing<D>, CheckpointFault<D>>
         requires { self.begun ≡ None → is_renewed self.standing.layout ≡ true → 0 < self.standing.used }
         ensures begun { IfOk result (λ c. c ≡ checkpoint_of self) }
-        // A new one makes these disk calls: one for each slot, one for each sector of a port's record, and nine more, at most.
+        // A new one makes these disk calls: at most one for each slot, one for each sector of a port's record, and nine more.
         ensures calls { self.begun ≡ None
             → IfOk result (λ c. stages_left c ≡ checkpoint_calls (checkpointed self.standing) [] self.idle) }
         ensures at_most { self.begun ≡ None
             → IfOk result (λ c. length (stages_left c)
             ≤ (renewed self.standing.layout).slots + record_sectors (renewed self.standing.layout) + 9) }
-        // One that is gone on with carries batches of no more slots than an area has, at most 19 calls for each.
+        // A continued one carries batches that take no more slots than an area has, with at most 19 calls for each slot.
         ensures carrying { IfOk result (λ c.
             length (stages_left c) ≤ 20 * (renewed self.standing.layout).slots + record_sectors (renewed self.standing.layout) + 9) }
-        // It changes no meaning.
+        // It does not change what the disk means.
         ensures underway { IsAtRest (D.disk self.disk) self.standing self.idle → IsPaused (D.disk self.disk) self.standing self.begun
             → IfOk result (λ c. IsCheckpointUnderway D.disk c) }
-        // Each run of the journal goes on.
+        // Each run of the journal continues.
         ensures run { IfOk result (λ c. (r : Run) → IsRunAtRest D.disk r self → IsRunCheckpointing D.disk r c) }
         ensures back { IfErr result (λ fault. fault.journal ≡ self) }
-        // One that is gone on with takes no memory.
+        // A continued one needs no memory.
         ensures memory { IfErr result (λ fault. self.begun ≡ None) }
     {
         if self.begun.is_some() {
@@ -57,7 +56,7 @@ impl<D: SectorDisk> Journal<D> {
         }
     }
 
-    // Goes on with the checkpoint that is paused.
+    // Continues the paused checkpoint.
     fn go_on(self) -> Checkpointing<D>
         requires { is_some self.begun ≡ true }
         ensures begun { result ≡ checkpoint_of self }
@@ -69,7 +68,7 @@ impl<D: SectorDisk> Journal<D> {
         Checkpointing::of(disk, parts, begun)
     }
 
-    // Goes on with this checkpoint.
+    // Starts this checkpoint.
     fn with_checkpoint(self, begun: Begun) -> Checkpointing<D>
         requires { IsBegun (D.disk self.disk) self.standing begun }
         ensures { result ≡ record { disk = self.disk; standing = self.standing; history = self.history; begun = view_of begun } }
@@ -82,7 +81,7 @@ impl<D: SectorDisk> Journal<D> {
         Checkpointing::of(disk, parts, begun)
     }
 
-    // A new checkpoint.
+    // Creates a new checkpoint.
     fn new_checkpoint(&self) -> Result<Begun, AllocError>
         requires { is_renewed self.now.standing.layout ≡ true → 0 < self.now.standing.used }
         ensures begun { IfOk result (IsBegun (D.disk self.now.disk) self.now.standing) }

@@ -1,5 +1,5 @@
-//! Facts with values of docs/FORMATS.md, worked out by the check: a number that is wrong in a definition and in the code
-//! alike is refused here.
+//! Worked values from docs/FORMATS.md that the check computes: they catch a number that is wrong both in a definition and in
+//! the code.
 
 ghost use Rattle.std.specs.Prelude.{◌≡◌, [], ◌∷◌, length, true, false};
 ghost use Rattle.iol_types.specs.Command.{Configure};
@@ -16,8 +16,9 @@ use crate::phase::Phase;
 use crate::stage::CheckpointStage;
 use iol_layout::Idle;
 
-/// The disk calls of a checkpoint into area B, of 2 ports that were never configured and 3 slots: 12, and two more where the
-/// header of B is not older. One of a journal in version 1, whose areas have 4 slots, makes the same: it writes version 2.
+/// The disk calls of a checkpoint into area B, with 2 ports that were never configured and 3 slots: 12, and two more if the
+/// header of B is not older. A checkpoint of a journal in version 1, whose areas have 4 slots, makes the same calls, because
+/// it writes version 2.
 pub fn a_checkpoint()
     ensures older { checkpoint_calls (checkpointed (standing_of 3 4)) [] Idle.Older ≡ checkpoint_of_two_by_four }
     ensures closed { checkpoint_calls (checkpointed (standing_of 3 4)) [] Idle.Closed
@@ -26,7 +27,7 @@ pub fn a_checkpoint()
     ensures twelve { length checkpoint_of_two_by_four ≡ 12 }
 {}
 
-/// The disk calls of that checkpoint, where a batch was written beside it: four more.
+/// The disk calls of that checkpoint if a batch was written while it was paused: four more.
 #[tactic(auto, unfolding(iol_layout::specs::Body::body_octets, iol_layout::specs::Octets::padded))]
 pub fn a_carried_batch()
     ensures calls { checkpoint_calls (checkpointed (standing_of 2 4)) ((Configure 1 example_config ∷ []) ∷ []) Idle.Older
@@ -37,8 +38,8 @@ pub fn a_carried_batch()
     ensures number { (with_batches (checkpointed (standing_of 2 4)) ((Configure 1 example_config ∷ []) ∷ [])).number ≡ 5 }
 {}
 
-/// A checkpoint can be paused until the gate of the other area is written, unless it writes another version. A batch that is
-/// written meanwhile is carried before it.
+/// A checkpoint can be paused until the gate of the other area is written, unless it writes another version. A batch written
+/// meanwhile is carried before that gate is opened.
 pub fn pauses()
     ensures first { can_pause CheckpointStage.ClearHeader ≡ true }
     ensures carried { can_pause (CheckpointStage.Carry Phase.Gate) ≡ true }

@@ -1,4 +1,4 @@
-//! A checkpoint on its way to the disk.
+//! A checkpoint that is being written, and its steps.
 
 use crate::begun::Begun;
 use crate::journal::Journal;
@@ -8,8 +8,8 @@ use iol_disk::{DiskFault, SectorDisk};
 use iol_layout::{Idle, Place};
 use std::marker::Model;
 
-/// A checkpoint on its way to the disk. Each [`step`](Checkpointing::step) makes one disk call. The first part of it, up to the
-/// write of the other area's gate, may be paused, so that batches are written meanwhile.
+/// A checkpoint that is being written. Each [`step`](Checkpointing::step) makes one disk call. Until the other area's gate is
+/// written, the checkpoint may be paused, so that batches are written meanwhile.
 #[derive(Drop)]
 pub struct Checkpointing<D: SectorDisk> {
     disk: D,
@@ -37,14 +37,14 @@ impl<D: SectorDisk> Model for Checkpointing<D> {
         × LeadsTo (stands c.parts) c.parts.history };
 }
 
-/// What a step of a checkpoint answers.
+/// The result of a step of a checkpoint.
 pub enum CheckpointProgress<D: SectorDisk> {
-    /// Further steps are owed.
+    /// More steps are needed.
     More(Checkpointing<D>),
-    /// The other area is in use, with all its slots free but those of the batches that were carried.
+    /// The other area is in use, with all its slots free except those of carried batches.
     Done(Journal<D>),
-    /// A call of the disk failed. A disk of which a sync has failed is not gone on with: many systems drop the pages of a
-    /// failed sync and answer the next with success. Behind another fault the disk may be recovered again.
+    /// A disk call failed. Stop using a disk after a failed sync: many systems drop the pages of a failed sync and report
+    /// success for the next one. After another fault the disk may be recovered again.
     Failed(D, DiskFault),
 }
 
@@ -67,7 +67,7 @@ impl<D: SectorDisk> Checkpointing<D> {
     ghost use Rattle.iol_journal.specs.Phases.{IsAtRest};
     ghost use Rattle.iol_layout.specs.declared.idle.Idle.TheVariants.{Older};
 
-    // A checkpoint that goes on.
+    // Creates the value of a checkpoint that continues from `begun`.
     pub(crate) fn of(disk: D, parts: Parts, begun: Begun) -> Checkpointing<D>
         requires resting { IsResting (D.disk disk) (stands parts) }
         requires begun { IsBegun (D.disk disk) (stands parts) begun }
@@ -89,7 +89,7 @@ impl<D: SectorDisk> Checkpointing<D> {
         &self.disk
     }
 
-    /// The disk, to be recovered again.
+    /// Gives up the checkpoint and returns the disk, to be recovered again.
     pub fn disk(self) -> D
         ensures { result ≡ self.disk }
     {
@@ -101,21 +101,21 @@ impl<D: SectorDisk> Checkpointing<D> {
         disk
     }
 
-    /// Whether it can be paused: until the gate of the other area is written, and never where the journal has an older layout.
+    /// Whether it can be paused: until the gate of the other area is written, and never if the journal has an older layout.
     pub fn can_pause(&self) -> bool
         ensures { result ≡ may_pause self.now.standing self.now.begun.stage }
     {
         self.parts.place.layout.is_renewed() && self.begun.stage.can_pause()
     }
 
-    /// Sets it aside. Batches may then be written, until [`Journal::checkpoint`] goes on with it.
+    /// Pauses it. Batches may then be written, until [`Journal::checkpoint`] continues it.
     pub fn pause(self) -> Journal<D>
         requires { may_pause self.standing self.begun.stage ≡ true }
         ensures paused { result ≡ paused_in self }
-        // It changes no meaning.
+        // It does not change what the disk means.
         ensures rest { IsCheckpointUnderway D.disk self → IsAtRest (D.disk result.disk) result.standing result.idle
             × IsPaused (D.disk result.disk) result.standing result.begun }
-        // Each run of the journal goes on.
+        // Each run of the journal continues.
         ensures run { (r : Run) → IsRunCheckpointing D.disk r self → IsRunAtRest D.disk r result }
     {
         let Checkpointing {
@@ -130,11 +130,11 @@ impl<D: SectorDisk> Checkpointing<D> {
     /// Makes one disk call, in the order of docs/FORMATS.md, "Orders of disk calls".
     pub fn step(self) -> CheckpointProgress<D>
         ensures call { CheckpointStepMakes D.disk (stages_left self) result (D.disk self.disk) }
-        // A stop at any moment of it leaves the number and the state.
+        // A power stop at any moment of it leaves the number and the state.
         ensures any_moment { IsCheckpointUnderway D.disk self → LeavesOnly (D.disk self.disk) (D.disk (checkpoint_disk result))
             (KeptMeans (D.disk self.disk).sectors self.standing.number self.standing.state) }
         ensures underway { IsCheckpointUnderway D.disk self → IfGoesOn result (λ c. IsCheckpointUnderway D.disk c) }
-        // Each run of the journal goes on: each image since a moment of it has all that was acknowledged by then.
+        // Each run of the journal continues: every image since a moment of the run has all commands acknowledged by then.
         ensures run { (r : Run) → IsRunCheckpointing D.disk r self → HasCheckpointed D.disk r result }
         ensures more { IfGoesOn result (IsCheckpointMoved self) }
         ensures done { IfCheckpointed result (IsCheckpointDone self) }

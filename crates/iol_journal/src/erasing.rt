@@ -1,4 +1,4 @@
-//! A disk is made unformatted.
+//! Erasing: makes a disk unformatted.
 
 ghost use Rattle.std.specs.Prelude.{◌≡◌, ◌<◌, [], ◌∷◌, OnOk};
 ghost use Rattle.iol_disk.specs.Calls.{write, sync, Makes};
@@ -10,14 +10,14 @@ ghost use Rattle.iol_layout.specs.declared.geometry.TheConstants.{DISK_GATE};
 use iol_disk::{DiskFault, SectorDisk};
 use iol_layout::{DISK_GATE, gate, is_formatted};
 
-/// Closes the gate of the disk where it is open, so that no journal is on it. Nothing else is written, and it takes no
-/// memory. A disk of fewer than two sectors counts as one whose gate is closed.
+/// Closes the gate of the disk if it is open, so that no journal is on it. Nothing else is written, and no memory is
+/// allocated. A disk of fewer than two sectors counts as one whose gate is closed.
 ///
 /// # Errors
 /// The fault of the call that failed. The disk may then be erased, formatted or recovered.
 pub fn erase<D: SectorDisk>(disk: &mut D) -> Result<(), DiskFault>
     ensures makes { MakesErasure (D.disk disk.old) (D.disk disk.new) result }
-    // At any moment each image means what one meant before, or is not formatted.
+    // At any moment each image means what an image meant before, or is not formatted.
     ensures any_moment { LeavesOnly (D.disk disk.old) (D.disk disk.new)
         (MeansAsBeforeOrNothing (D.disk disk.old).sectors (D.disk disk.old).content) }
     // No image is formatted.
@@ -27,7 +27,8 @@ pub fn erase<D: SectorDisk>(disk: &mut D) -> Result<(), DiskFault>
     close_disk(disk)
 }
 
-// Syncs, and closes the gate of the disk where it is open. A closed gate is not written: that might leave it open.
+// Syncs, and closes the gate of the disk if it is open. A closed gate is not written, because a torn write might leave
+// it open.
 fn close_disk<D: SectorDisk>(disk: &mut D) -> Result<(), DiskFault>
     ensures { MakesErasure (D.disk disk.old) (D.disk disk.new) result }
 {
@@ -39,7 +40,7 @@ fn close_disk<D: SectorDisk>(disk: &mut D) -> Result<(), DiskFault>
     }
 }
 
-// Closes the gate of the disk, and syncs.
+// Closes the gate of the disk and syncs.
 fn write_closed_gate<D: SectorDisk>(disk: &mut D) -> Result<(), DiskFault>
     requires { DISK_GATE < (D.disk disk.old).sectors }
     ensures { Makes (write DISK_GATE closed_gate ∷ sync ∷ []) (D.disk disk.old) (D.disk disk.new) result }

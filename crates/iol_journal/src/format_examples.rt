@@ -1,5 +1,5 @@
-//! Facts with values of docs/FORMATS.md, worked out by the check: a number that is wrong in a definition and in the code
-//! alike is refused here.
+//! Worked values from docs/FORMATS.md that the check computes: they catch a number that is wrong both in a definition
+//! and in the code.
 
 ghost use Rattle.std.specs.Prelude.{◌≡◌, [], ◌∷◌};
 ghost use Rattle.iol_disk.specs.Calls.{write, sync};
@@ -12,7 +12,7 @@ ghost use Rattle.iol_record.specs.declared.version.Version.TheVariants.{One, Two
 ghost use Rattle.iol_layout.specs.Octets.{padded};
 ghost use Rattle.iol_journal.specs.Orders.{format_calls};
 
-/// The disk calls of a format for 2 ports and 4 slots: all else before the gate of the disk.
+/// The disk calls of a format for a geometry of 2 ports and 4 slots: everything else comes before the gate of the disk.
 pub fn a_format()
     ensures { format_calls Two two_by_four ≡ sync ∷ write 0 (geometry_octets two_by_four) ∷ write 2 open_gate ∷ write 90 closed_gate
         ∷ write 38 closed_gate ∷ write 55 closed_gate ∷ write 72 closed_gate
@@ -21,7 +21,7 @@ pub fn a_format()
         ∷ sync ∷ write 1 open_gate ∷ sync ∷ [] }
 {}
 
-/// In version 1: four slots an area, and smaller records.
+/// The same format in version 1, with four slots in each area and smaller records.
 pub fn a_format_of_one()
     ensures { format_calls One two_by_four ≡ sync ∷ write 0 (geometry_octets two_by_four) ∷ write 2 open_gate ∷ write 90 closed_gate
         ∷ write 22 closed_gate ∷ write 39 closed_gate ∷ write 56 closed_gate ∷ write 73 closed_gate

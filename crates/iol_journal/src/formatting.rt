@@ -1,4 +1,4 @@
-//! An empty journal is written.
+//! Formatting: writes an empty journal.
 
 ghost use Rattle.std.specs.Prelude.{◌≡◌, ◌≤◌, ◌<◌, ◌⊎◌, ◌↔◌, ◌++◌, [], ◌∷◌, true, false, Err, OnOk, IfOk, IfErr, IsErrOf};
 ghost use Rattle.iol_disk.specs.Content.{IsImage};
@@ -21,19 +21,19 @@ use iol_types::MasterState;
 use std::alloc::{AllocError, Global};
 use thiserror::Error;
 
-/// Why a disk was not formatted. The causes are judged in this order.
+/// Why a disk was not formatted. The causes are checked in this order.
 #[derive(Clone, Copy, Debug, PartialEq, Eq, Error)]
 pub enum FormatFault {
-    /// It has fewer sectors than the geometry asks for. It was not touched.
+    /// The disk has fewer sectors than the geometry needs. It was not touched.
     #[error("the disk is too small")]
     TooSmall,
-    /// Its gate is open. Nothing was written.
+    /// The gate of the disk is open. Nothing was written.
     #[error("the disk is already formatted")]
     AlreadyFormatted,
-    /// Memory ran out. Nothing was written.
+    /// Out of memory. Nothing was written.
     #[error("out of memory")]
     Memory,
-    /// A call of the disk failed, at any point.
+    /// A disk call failed, at any point.
     #[error("{0}")]
     Disk(DiskFault),
 }
@@ -60,11 +60,12 @@ impl From<AllocError> for FormatFault {
     }
 }
 
-/// Makes an empty journal on a disk whose gate is closed: all else is written and synced before that gate is opened.
+/// Writes an empty journal to a disk whose gate is closed. Everything else is written and synced before that gate is
+/// opened.
 ///
 /// # Errors
-/// `TooSmall`, `AlreadyFormatted` and `Memory`, in this order, and `Disk` at the call that fails; a disk that failed
-/// may be formatted again, but where its gate was already written: then it is recovered.
+/// `TooSmall`, `AlreadyFormatted` and `Memory`, in this order, and `Disk` at the call that fails. A disk that failed
+/// may be formatted again, unless its gate was already written: then it is recovered.
 pub fn format<D: SectorDisk>(
     alloc: Global,
     disk: &mut D,
@@ -73,18 +74,18 @@ pub fn format<D: SectorDisk>(
     ensures too_small { IsErrOf result TooSmall ↔ ((D.disk disk.old).sectors < total (layout_of geometry)) }
     ensures formatted_already { IsErrOf result AlreadyFormatted → Shows (D.disk disk.old) (λ image. is_open (image DISK_GATE) ≡ true) }
     ensures makes { MakesFormat newest geometry (D.disk disk.old) (D.disk disk.new) result }
-    // Memory is asked for only where the gate of the disk is closed.
+    // Memory is allocated only if the gate of the disk is closed.
     ensures memory { result ≡ Err Memory → Shows (D.disk disk.old) (λ image. is_open (image DISK_GATE) ≡ false) }
-    // Until its first sync, and where it refuses, each image was one before.
+    // Until the first sync, and if the format is refused, each image was an image before.
     ensures any_moment { LeavesOnly (D.disk disk.old) (D.disk disk.new)
         (λ image. IsImage (D.disk disk.old).content image ⊎ IsEmptyOrUnformatted geometry (D.disk disk.old).sectors image) }
     ensures untouched { IfErr result (λ fault.
         IfUntouched fault (LeavesOnly (D.disk disk.old) (D.disk disk.new) (IsImage (D.disk disk.old).content))) }
-    // Where the gate of the disk is open nothing is written, and the answer is not Ok.
+    // If the gate of the disk is open, nothing is written and the result is not `Ok`.
     ensures kept { Shows (D.disk disk.old) (λ image. is_open (image DISK_GATE) ≡ true)
         → LeavesOnly (D.disk disk.old) (D.disk disk.new) (IsImage (D.disk disk.old).content) }
     ensures was_closed { OnOk result (Shows (D.disk disk.old) (λ image. is_open (image DISK_GATE) ≡ false)) }
-    // Since its first sync each image of a disk whose gate was closed is unformatted, or an empty journal.
+    // After the first sync, each image of a disk whose gate was closed is unformatted or an empty journal.
     ensures since { Shows (D.disk disk.old) (λ image. is_open (image DISK_GATE) ≡ false)
         → LeavesFormat geometry (D.disk disk.old) (D.disk disk.new) }
     // Each image is an empty journal of this geometry.
@@ -104,7 +105,7 @@ pub fn format<D: SectorDisk>(
     Ok(())
 }
 
-// What area A begins with: it is in its first epoch, and its ports were never configured.
+// The initial content of area A: its first epoch, and ports that were never configured.
 pub(crate) fn first_area(
     alloc: Global,
     version: Version,
@@ -127,7 +128,7 @@ pub(crate) fn first_area(
     )
 }
 
-// Writes an empty journal, and opens the gate of the disk once all else is durable.
+// Writes an empty journal, and opens the gate of the disk once everything else is durable.
 pub(crate) fn write_journal<D: SectorDisk>(
     disk: &mut D,
     version: Version,
@@ -145,7 +146,7 @@ pub(crate) fn write_journal<D: SectorDisk>(
     open_disk(disk)
 }
 
-// Writes the geometry, and the gates of the areas.
+// Writes the geometry and the gates of the areas.
 fn write_gates<D: SectorDisk>(
     disk: &mut D,
     version: Version,
@@ -172,7 +173,7 @@ fn write_headers<D: SectorDisk>(disk: &mut D, plan: &AreaPlan) -> Result<(), Dis
     disk.write(plan.layout.header(Area::B), &unused)
 }
 
-// Opens the gate of the disk once all that was written is durable.
+// Opens the gate of the disk once everything written is durable.
 fn open_disk<D: SectorDisk>(disk: &mut D) -> Result<(), DiskFault>
     requires { DISK_GATE < (D.disk disk.old).sectors }
     ensures { Makes opening_calls (D.disk disk.old) (D.disk disk.new) result }

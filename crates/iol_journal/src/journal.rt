@@ -11,13 +11,13 @@ use iol_layout::{BODY_HEAD_OCTETS, BODY_OCTETS};
 use std::alloc::AllocError;
 use std::marker::Model;
 
-/// A journal at rest: all commands that it has are durable. It owns its disk, and keeps the state that the disk means. A
-/// checkpoint of it may be paused.
+/// A journal at rest: all its commands are durable. It owns its disk, and keeps the state that the disk means. A checkpoint of it
+/// may be paused.
 #[derive(Drop)]
 pub struct Journal<D: SectorDisk> {
     pub(crate) disk: D,
     pub(crate) parts: Parts,
-    // the checkpoint that is paused
+    // the paused checkpoint
     pub(crate) begun: Option<Begun>,
 }
 
@@ -43,14 +43,14 @@ impl<D: SectorDisk> Model for Journal<D> {
         × IsSetAside (D.disk j.disk) (stands j.parts) j.parts.place.idle j.begun };
 }
 
-/// A checkpoint that was not begun, and the journal as it was.
+/// Why a checkpoint was not begun, with the unchanged journal.
 #[derive(Drop)]
 pub struct CheckpointFault<D: SectorDisk> {
     pub cause: AllocError,
     pub journal: Journal<D>,
 }
 
-/// A batch that was not begun, why, and the journal as it was.
+/// Why a batch was not begun, with the unchanged journal and batch.
 #[derive(Drop)]
 pub struct BeginFault<D: SectorDisk> {
     pub cause: BeginCause,
@@ -83,7 +83,7 @@ impl<D: SectorDisk> Journal<D> {
     ghost use Rattle.iol_layout.specs.declared.header.TheConstants.{LAST_NUMBER};
     ghost use Rattle.iol_journal.specs.declared.phase.Phase.TheVariants.{Body};
 
-    // A journal of these parts, beside which this checkpoint is paused.
+    // Creates a journal at rest from these parts, with this checkpoint paused.
     pub(crate) fn at_rest(disk: D, parts: Parts, begun: Option<Begun>) -> Journal<D>
         requires resting { IsResting (D.disk disk) (stands parts) }
         requires history { LeadsTo (stands parts) parts.history }
@@ -97,17 +97,17 @@ impl<D: SectorDisk> Journal<D> {
         Journal { disk, parts, begun }
     }
 
-    /// How many commands its disk has.
+    /// The number of commands on its disk.
     pub fn number(&self) -> u64
         ensures number { result ≡ self.now.standing.number }
         ensures bound { result ≤ LAST_NUMBER }
-        // What it has done since its recovery leads to where it stands.
+        // What it has done since its recovery leads to its number and state.
         ensures leads { LeadsTo self.now.standing self.now.history }
     {
         self.parts.number
     }
 
-    /// Whether a slot is free: of an older layout none is. Where none is, a checkpoint comes before the next batch.
+    /// Whether a slot is free; in an older layout none is. If none is free, a checkpoint comes before the next batch.
     pub fn has_free_slot(&self) -> bool
         ensures free { result ≡ nat_lt 0 (free_slots self.now.standing) }
         ensures used { result ≡ false → is_renewed self.now.standing.layout ≡ true → 0 < self.now.standing.used }
@@ -115,14 +115,15 @@ impl<D: SectorDisk> Journal<D> {
         0 < self.parts.place.free_slots()
     }
 
-    /// Whether its layout is the one that is written. Where it is an older one, a checkpoint comes before all else, and writes that.
+    /// Whether it has the newest layout. If its layout is an older one, a checkpoint comes before all else and writes the newest
+    /// one.
     pub fn is_renewed(&self) -> bool
         ensures { result ≡ is_renewed self.now.standing.layout }
     {
         self.parts.place.layout.is_renewed()
     }
 
-    /// Whether half of the slots are used, or more: a checkpoint that is begun now can be done before the others are full.
+    /// Whether at least half of the slots are used: a checkpoint begun then can end before the other slots are full.
     pub fn is_half_used(&self) -> bool
         ensures half { result ≡ nat_le self.now.standing.layout.slots (2 * self.now.standing.used) }
         ensures used { result ≡ true → 0 < self.now.standing.used }
@@ -137,11 +138,11 @@ impl<D: SectorDisk> Journal<D> {
         self.begun.is_some()
     }
 
-    /// The octets of records that fit the free slots, or where none is free one slot: 8,192 for each slot, less 22.
+    /// The number of record octets that fit the free slots, or one slot if none is free: 8,192 for each slot, less 22.
     pub fn room(&self) -> usize
         ensures room { result ≡ room_in self.now.standing }
         ensures least { MOST_RECORD_OCTETS ≤ result }
-        // Records of no more octets fit an area, in the layout that is written.
+        // Records with at most this number of octets fit an area, in the newest layout.
         ensures fits { (octets : ℕ) → octets ≤ result → slots_of octets ≤ (renewed self.now.standing.layout).slots }
     {
         let free = self.parts.place.free_slots();
@@ -155,7 +156,7 @@ impl<D: SectorDisk> Journal<D> {
         &self.disk
     }
 
-    /// The disk, to be recovered again.
+    /// Gives up the journal and returns the disk, to be recovered again.
     pub fn disk(self) -> D
         ensures { result ≡ self.disk }
     {
@@ -167,28 +168,28 @@ impl<D: SectorDisk> Journal<D> {
         disk
     }
 
-    /// Makes a batch ready to be written. Its steps then take no memory. Where a checkpoint is paused the batch is kept, to be
+    /// Prepares a batch to be written. Its steps then allocate no memory. If a checkpoint is paused, the batch is kept, to be
     /// carried into the other area.
     ///
     /// # Errors
-    /// `TooLarge`, `NeedsCheckpoint`, `Memory` or `Misfit`, in this order; journal and batch are handed back.
+    /// `TooLarge`, then `NeedsCheckpoint`, then `Memory` or `Misfit`; the journal and the batch are returned.
     pub fn begin(self, batch: Batch) -> Result<Writing<D>, BeginFault<D>>
         ensures begun { IfOk result (λ w. w ≡ writing_of self (values batch.commands.items)) }
-        // Its steps make these disk calls: 16 for each slot, and three more, at most.
+        // Its steps make these disk calls: at most 16 for each slot, and three more.
         ensures calls { IfOk result (λ w. calls_left w ≡ batch_calls self.standing (values batch.commands.items)) }
         ensures at_most { IfOk result (λ w. length (calls_left w) ≤ BODY_SECTORS * slots_for (values batch.commands.items) + 3) }
-        // A command takes a slot at most, so there are no more than 16 for each command, and three.
+        // A command takes at most one slot, so there are at most 16 for each command, and three more.
         ensures few { IfOk result (λ w. length (calls_left w) ≤ BODY_SECTORS * length (values batch.commands.items) + 3) }
-        // It changes no meaning.
+        // It does not change what the disk means.
         ensures underway { IsAtRest (D.disk self.disk) self.standing self.idle → IfOk result (λ w. IsUnderway D.disk w) }
         ensures beside { IfOk result (λ w. IsPaused (D.disk self.disk) self.standing self.begun
             → IsBeside (D.disk w.disk) w.standing w.begun) }
-        // Each run of the journal goes on as one whose first queued commands are underway.
+        // Each run of the journal continues as one whose first queued commands are underway.
         ensures run { IfOk result (λ w. (r : Run) (behind : List CommandValue) → r.queued ≡ values batch.commands.items ++ behind
             → IsRunAtRest D.disk r self → IsRunWriting D.disk (with_batch_begun r (values batch.commands.items) behind) w) }
         ensures follows { OnOk result (batch_refusal self.standing batch.first (values batch.commands.items) ≡ None) }
         ensures cause { IfErr result (λ fault. IsBatchRefusal self.standing batch.first (values batch.commands.items) fault.cause) }
-        // Where too few slots are free, a checkpoint can be made.
+        // If too few slots are free, a checkpoint can be made.
         ensures used { IfErr result (λ fault. fault.cause ≡ BeginCause.NeedsCheckpoint → is_renewed self.standing.layout ≡ true
             → 0 < self.standing.used) }
         ensures back { IfErr result (λ fault. (fault.journal ≡ self) × (fault.batch ≡ batch)) }
@@ -203,7 +204,7 @@ impl<D: SectorDisk> Journal<D> {
         }
     }
 
-    // Makes a batch ready that was planned.
+    // Prepares a planned batch.
     fn begin_planned(self, batch: Batch, plan: Plan) -> Result<Writing<D>, BeginFault<D>>
         requires planned { IsPlanned (D.disk self.disk) self.standing (values batch.commands.items) (Body 0) }
         requires plan { IsPlan self.standing (values batch.commands.items) plan }
@@ -228,7 +229,7 @@ impl<D: SectorDisk> Journal<D> {
         }
     }
 
-    // What the batch writes, and the state after it.
+    // Plans what the batch writes, and the state after it.
     fn plan(&self, batch: &Batch) -> Result<Plan, BeginCause>
         ensures planned { IfOk result (λ plan. IsPlanned (D.disk self.now.disk) self.now.standing (values batch.now.commands.items) (Body 0)
             × IsPlan self.now.standing (values batch.now.commands.items) plan

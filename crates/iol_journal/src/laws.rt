@@ -1,4 +1,5 @@
-//! Laws of journals, which no code calls. Proofs of other crates cite them from `proofs/JournalLaws.antt`, under the same names.
+//! Laws of journals, for proofs only: no code calls them. Proofs of other crates cite them from `proofs/JournalLaws.antt`, under
+//! the same names.
 
 ghost use Rattle.std.specs.Prelude.{◌≡◌, ◌<◌, ◌⊎◌, ◌+◌, ℕ, true, false, IsTrue, List, Some, None};
 ghost use Rattle.iol_types.specs.Command.{CommandValue};
@@ -17,14 +18,15 @@ ghost use Rattle.iol_layout.specs.declared.idle.Idle.{Idle};
 use crate::refusal::BeginCause;
 use iol_disk::SectorDisk;
 
-/// While a batch is under way each image of an honest disk is kept, and means the state before it or the state after it.
+/// While a batch is being written, each image of an honest disk is kept, and means the state before the batch or the state after
+/// it.
 pub fn underway_means_either<D: SectorDisk>()
     ensures { (w : WritingView D) → IsUnderway D.disk w → IsTrue (D.disk w.disk).honest
         → EachImage (D.disk w.disk).content
         (KeptEither (D.disk w.disk).sectors w.standing.number w.standing.state w.commands) }
 {}
 
-/// While a checkpoint is under way each image of an honest disk is kept, and means the number and the state.
+/// While a checkpoint is being written, each image of an honest disk is kept, and means the journal's number and state.
 pub fn checkpoint_means_its_state<D: SectorDisk>()
     ensures { (c : CheckpointingView D) → IsCheckpointUnderway D.disk c → EachMeans (D.disk c.disk) c.standing.number c.standing.state }
 {}
@@ -34,7 +36,8 @@ pub fn rest_means_its_state()
     ensures { (d : Disk) (s : Standing) (idle : Idle) → IsAtRest d s idle → EachMeans d s.number s.state }
 {}
 
-/// A batch that is not too large and goes on where the journal stands is refused for want of a slot alone.
+/// A batch that is not too large and follows the journal is refused only if too few slots are free, and then a checkpoint can be
+/// made.
 pub fn following_batch_wants_a_slot()
     ensures { (s : Standing) (first : ℕ) (commands : List CommandValue) → fits_no_area s commands ≡ false
         → follows s first commands ≡ true

@@ -1,4 +1,4 @@
-//! The layout of earlier releases is written, for tests.
+//! Formatting in the layout of earlier releases, for tests.
 
 ghost use Rattle.std.specs.Prelude.{◌≡◌, ◌<◌, ◌↔◌, Err, OnOk, IsErrOf, true, false};
 ghost use Rattle.iol_record.specs.declared.version.Version.TheVariants.{One};
@@ -16,11 +16,11 @@ use iol_layout::{DISK_GATE, Geometry, gate};
 use iol_record::Version;
 use std::alloc::Global;
 
-/// Makes an empty journal as [`format`](crate::format) does, but in version 1 of the layout, which earlier releases wrote: what goes
-/// on with it renews it. It is there for tests alone.
+/// Writes an empty journal as [`format`](crate::format) does, but in version 1 of the layout, which earlier releases wrote. The
+/// first checkpoint renews the layout. For tests only.
 ///
 /// # Errors
-/// Those of [`format`](crate::format), in the same order.
+/// The errors of [`format`](crate::format), in the same order.
 pub fn format_one<D: SectorDisk>(
     alloc: Global,
     disk: &mut D,

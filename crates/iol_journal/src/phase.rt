@@ -1,8 +1,8 @@
-//! The disk call that comes next where a batch is written.
+//! The next disk call of a batch that is being written.
 
 ghost use Rattle.std.specs.Prelude.{◌≡◌, ◌<◌};
 
-/// The disk call that comes next where a batch is written.
+/// The next disk call of a batch that is being written.
 #[derive(Clone, Copy)]
 pub enum Phase {
     /// The write of this sector of the body.
@@ -18,7 +18,7 @@ pub enum Phase {
 impl Phase {
     ghost use Rattle.iol_journal.specs.Batches.{next_phase, IsPhase};
 
-    /// The phase after this one, with a body of so many sectors.
+    /// The phase after this one, for a body of `sectors` sectors; `None` after the last.
     pub fn next(self, sectors: usize) -> Option<Phase>
         requires phase { IsPhase sectors self }
         requires short { sectors < 1000000 }

@@ -22,10 +22,10 @@ impl Plan {
     ghost use Rattle.iol_layout.specs.Geometry.{IsGeometry};
     ghost use Rattle.iol_layout.specs.Layout.{geometry_for, is_renewed};
 
-    /// What the batch writes into the free slots of a journal that has these parts.
+    /// Plans what the batch writes into the free slots of a journal with these parts.
     ///
     /// # Errors
-    /// `TooLarge`, `NeedsCheckpoint`, `Memory` or `Misfit`, in this order.
+    /// `TooLarge`, then `NeedsCheckpoint`, then `Memory` or `Misfit`.
     pub fn of(parts: &Parts, batch: &Batch) -> Result<Plan, BeginCause>
         requires geometry { IsGeometry (geometry_for parts.now.place.layout) }
         requires within { parts.now.place.used ≤ parts.now.place.layout.slots }
@@ -36,7 +36,7 @@ impl Plan {
         ensures follows { OnOk result (batch_refusal (stands parts.now) batch.now.first (values batch.now.commands.items) ≡ None) }
         ensures few { OnOk result (slots_for (values batch.now.commands.items) ≤ length (values batch.now.commands.items)) }
         ensures cause { IfErr result (IsBatchRefusal (stands parts.now) batch.now.first (values batch.now.commands.items)) }
-        // Where too few slots are free in the layout that is written, one is used.
+        // If too few slots are free in the newest layout, at least one is used.
         ensures used { IfErr result (λ cause. cause ≡ BeginCause.NeedsCheckpoint → is_renewed parts.now.place.layout ≡ true
             → 0 < parts.now.place.used) }
     {

@@ -1,4 +1,4 @@
-//! A journal is found on a disk.
+//! Recovery: finds the journal on a disk.
 
 ghost use Rattle.std.specs.Prelude.{◌≡◌, Err, IsTrue, IfOk};
 ghost use Rattle.iol_disk.specs.Content.{IsImage, clock};
@@ -16,7 +16,7 @@ use iol_recovery::{RecoverCause, find};
 use iol_types::MasterState;
 use std::alloc::Global;
 
-/// A disk that was not recovered, and why.
+/// Why a disk was not recovered, with the disk.
 #[derive(Drop)]
 pub struct RecoverFault<D: SectorDisk> {
     pub cause: RecoverCause,
@@ -33,12 +33,13 @@ impl<D: SectorDisk> Journal<D> {
     ghost use Rattle.iol_journal.specs.Runs.{Run, IsRun, begun};
     ghost use Rattle.iol_journal.specs.Running.{IsRunAtRest};
 
-    /// Finds the journal that a disk holds, and the state after its commands. It begins with a sync, and writes nothing.
+    /// Finds the journal on a disk, and returns it with the state after its commands. It begins with a sync and writes
+    /// nothing.
     ///
     /// # Errors
-    /// The cause that is met first in the order of reading (docs/FORMATS.md, "Recovery"); the disk is handed back.
+    /// The first cause in the order of reading (docs/FORMATS.md, "Recovery"); the disk is returned.
     pub fn recover(alloc: Global, disk: D) -> Result<(Journal<D>, MasterState), RecoverFault<D>>
-        // It is how the journal stands on what the disk reads as.
+        // The result is what the image that the disk reads as holds.
         ensures found { IfOk result (λ found.
             Shows (D.disk disk) (λ image. standing_in (D.disk disk).sectors image ≡ Ok found.0.standing)) }
         ensures state { IfOk result (λ found. found.1 ≡ found.0.standing.state) }
@@ -48,24 +49,24 @@ impl<D: SectorDisk> Journal<D> {
         ensures idle { IfOk result (λ found. Shows (D.disk disk) (λ image. found.0.idle ≡ idle_in found.0.standing image)) }
         ensures cause { IfErr result (λ fault.
             Shows (D.disk disk) (λ image. SaysWhy (standing_in (D.disk disk).sectors image) fault.cause)) }
-        // It makes one sync and reads, and a fault is that of the call that failed.
+        // It makes one sync and then only reads; a disk fault is that of the call that failed.
         ensures makes { MakesRecovery (D.disk disk) (D.disk (recovered_disk result)) (cause_of result) }
-        // Memory is asked for only behind a sound geometry and an area in use.
+        // Memory is allocated only after a sound geometry and an area in use are found.
         ensures memory { IfErr result (λ fault. fault.cause ≡ RecoverCause.Memory → Shows (D.disk disk) (HasChosen (D.disk disk).sectors)) }
-        // Where all images mean the same, that is what is found, and each image means it still.
+        // If all images mean the same, that is what is found, and each image still means it.
         ensures means { IfOk result (λ found. (number : ℕ) (state : State) → IsTrue (D.disk disk).honest
             → EachMeans (D.disk disk) number state
             → (found.0.standing.number ≡ number) × (found.0.standing.state ≡ state)
             × IsAtRest (D.disk found.0.disk) found.0.standing found.0.idle × EachMeans (D.disk found.0.disk) number state) }
         ensures history { IfOk result (λ found. found.0.history
             ≡ record { first = found.0.standing.number; start = found.1; commands = [] }) }
-        // A checkpoint that was paused is forgotten.
+        // A paused checkpoint is dropped.
         ensures begun { IfOk result (λ found. found.0.begun ≡ None) }
         // No image is added.
         ensures any_moment { LeavesOnly (D.disk disk) (D.disk (recovered_disk result)) (IsImage (D.disk disk).content) }
-        // Each run on the disk stays one.
+        // Each run on the disk remains a run.
         ensures run { (r : Run) → IsRun (D.disk disk) r → IsRun (D.disk (recovered_disk result)) r }
-        // On a kept image a run begins, with what is found.
+        // On a kept image a run begins with the number and the state that are found.
         ensures begins { IfOk result (λ found. Shows (D.disk disk) (IsKept (D.disk disk).sectors)
             → IsRunAtRest D.disk (begun (clock (D.disk found.0.disk).content) found.0.standing.number found.0.standing.state) found.0) }
     {

@@ -3,13 +3,13 @@
 use std::alloc::AllocError;
 use thiserror::Error;
 
-/// Why a batch was not begun. The causes are judged in this order.
+/// Why a batch was not begun. `TooLarge` is checked first, and `NeedsCheckpoint` next.
 #[derive(Clone, Copy, Debug, PartialEq, Eq, Error)]
 pub enum BeginCause {
     /// It has more than 64 commands, or takes more slots than an area has.
     #[error("the batch is too large")]
     TooLarge,
-    /// It takes more slots than are free; of an older layout none is.
+    /// It takes more slots than are free; in an older layout none is free.
     #[error("too few slots are free")]
     NeedsCheckpoint,
     /// Out of memory.

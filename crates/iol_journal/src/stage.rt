@@ -1,16 +1,16 @@
-//! The disk call that comes next in a checkpoint.
+//! The stages of a checkpoint, one for each disk call.
 
 ghost use Rattle.std.specs.Prelude.{◌≡◌};
 
 use crate::phase::Phase;
 use iol_layout::Idle;
 
-/// The disk call that comes next in a checkpoint (docs/FORMATS.md, "Orders of disk calls").
+/// The next disk call of a checkpoint (docs/FORMATS.md, "Orders of disk calls").
 #[derive(Clone, Copy)]
 pub enum CheckpointStage {
-    /// The write that makes the header of the other area older than any, where it is not.
+    /// The write that makes the header of the other area older than any, if it is not.
     ClearHeader,
-    /// The sync that makes it durable.
+    /// The sync that makes that header durable.
     SyncHeader,
     /// The write that closes the gate of the other area.
     CloseGate,
@@ -26,7 +26,7 @@ pub enum CheckpointStage {
     WriteRecord(usize),
     /// The sync that makes header and records durable.
     SyncRecords,
-    /// A disk call of a batch that was written beside the checkpoint and is carried into the other area.
+    /// A disk call of a batch that was written while the checkpoint was paused and is carried into the other area.
     Carry(Phase),
     /// The write that opens the gate of the other area.
     OpenGate,
@@ -39,7 +39,8 @@ impl CheckpointStage {
     ghost use Rattle.iol_journal.specs.Checkpoints.{first_stage, next_batch, next_stage, IsStage};
     ghost use Rattle.iol_journal.specs.Drafts.{can_pause, idle_at, owing};
 
-    // A torn gate may be open, so the header behind a closed one is made older first.
+    // The first stage. A torn write may leave a gate open, so if only the closed gate makes the area harmless, its header is made
+    // older first.
     pub(crate) fn first(idle: Idle) -> CheckpointStage
         ensures { result ≡ first_stage idle }
     {
@@ -49,7 +50,7 @@ impl CheckpointStage {
         }
     }
 
-    // The stage behind the records or behind a batch, with so many batches owed.
+    // The stage after the records or after a batch, with `owed` batches owed.
     fn next_batch(owed: usize) -> CheckpointStage
         ensures { result ≡ next_batch owed }
     {
@@ -67,7 +68,7 @@ impl CheckpointStage {
         !matches!(self, CheckpointStage::SyncOpen)
     }
 
-    /// How the other area is harmless before the disk call.
+    /// What makes the other area harmless before the disk call of this stage.
     pub fn idle(self) -> Idle
         ensures { result ≡ idle_at self }
     {
@@ -77,7 +78,7 @@ impl CheckpointStage {
         }
     }
 
-    // The stage where one batch more is owed.
+    // The stage once one more batch is owed.
     pub(crate) fn owing(self) -> CheckpointStage
         ensures { result ≡ owing self }
     {
@@ -87,7 +88,7 @@ impl CheckpointStage {
         }
     }
 
-    // The stage after this one, with so many slots, sectors of records, sectors of the first batch that is owed, and batches owed.
+    // The stage after this one: `sectors` are those of the first owed batch, and `owed` is the number of owed batches.
     pub(crate) fn next(
         self,
         slots: usize,

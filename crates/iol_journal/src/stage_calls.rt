@@ -15,10 +15,10 @@ use crate::stage::CheckpointStage;
 use iol_disk::{DiskFault, SectorDisk};
 use iol_layout::{Header, Place, gate};
 
-/// Makes the disk call of a checkpoint of a journal that stands here.
+/// Makes the next disk call of a checkpoint of a journal at this place.
 ///
 /// # Errors
-/// `Write` or `Sync`, where the disk fails.
+/// `Write` or `Sync` if the disk fails.
 #[tactic(auto, using(iol_layout::proofs::Layouts::geometry_is))]
 pub fn make_stage<D: SectorDisk>(
     disk: &mut D,
@@ -52,7 +52,7 @@ pub fn make_stage<D: SectorDisk>(
     }
 }
 
-// Makes a disk call of the first batch that is owed, in the other area.
+// Makes a disk call of the first owed batch, in the other area.
 #[tactic(auto, using(iol_layout::proofs::Layouts::geometry_is))]
 fn carry<D: SectorDisk>(
     disk: &mut D,

@@ -1,7 +1,6 @@
-//! Where things stand on a disk, and what its sectors say, part by part: for a map of a disk, which also shows what a
-//! recovery does not come to read.
+//! Places and readers for a map of a disk, part by part. The map also shows what a recovery does not read.
 //!
-//! [`Layout`] has the places. Each reader is one that a recovery reads by, and none writes to the disk.
+//! [`Layout`] has the places. Each reader is one that recovery uses, and none writes to the disk.
 
 pub use iol_disk::BODY_SECTORS;
 pub use iol_layout::{DISK_GATE, GEOMETRY, Layout, is_formatted, read_sector};

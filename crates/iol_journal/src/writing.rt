@@ -1,4 +1,4 @@
-//! A batch on its way to the disk.
+//! A batch that is being written, and its steps.
 
 use crate::batch::Batch;
 use crate::begun::{Begun, owing};
@@ -10,12 +10,12 @@ use crate::plan::Plan;
 use iol_disk::{DiskFault, SectorDisk};
 use std::marker::Model;
 
-/// A batch on its way to the disk. Each [`step`](Writing::step) makes one disk call.
+/// A batch that is being written. Each [`step`](Writing::step) makes one disk call.
 #[derive(Drop)]
 pub struct Writing<D: SectorDisk> {
     disk: D,
     parts: Parts,
-    // the checkpoint that is paused
+    // the paused checkpoint
     begun: Option<Begun>,
     batch: Batch,
     plan: Plan,
@@ -52,8 +52,8 @@ impl<D: SectorDisk> Model for Writing<D> {
         × IsSetAside (D.disk w.disk) (stands w.parts) w.parts.place.idle w.begun × HasRoom w.begun };
 }
 
-/// Evidence that a batch is durable: every image of the disk has it. Only [`step`](Writing::step) makes one, and it
-/// must be consumed: it cannot be copied.
+/// Evidence that a batch is durable: every image of the disk has it. Only [`step`](Writing::step) creates it. It cannot
+/// be copied, and must be consumed.
 pub struct Written {
     batch: Batch,
 }
@@ -77,7 +77,7 @@ impl Written {
     ghost use Rattle.iol_layout.specs.Body.{values};
     ghost use Rattle.iol_layout.specs.declared.header.TheConstants.{LAST_NUMBER};
 
-    /// The batch, which gives up what this stands for.
+    /// Returns the batch and consumes the evidence.
     pub fn into_batch(self) -> Batch
         ensures first { result.first ≡ self.first }
         ensures commands { values result.commands.items ≡ self.commands }
@@ -89,14 +89,14 @@ impl Written {
     }
 }
 
-/// What a step answers.
+/// The result of a step of a batch.
 pub enum Progress<D: SectorDisk> {
-    /// Further steps are owed.
+    /// More steps are needed.
     More(Writing<D>),
     /// The batch is durable.
     Done(Journal<D>, Written),
-    /// A call of the disk failed. A disk of which a sync has failed is not gone on with: many systems drop the pages of a
-    /// failed sync and answer the next with success. Behind another fault the disk may be recovered again.
+    /// A disk call failed. Stop using a disk after a failed sync: many systems drop the pages of a failed sync and report
+    /// success for the next one. After another fault the disk may be recovered again.
     Failed(D, DiskFault),
 }
 
@@ -118,7 +118,7 @@ impl<D: SectorDisk> Writing<D> {
     ghost use Rattle.iol_journal.specs.Running.{IsRunWriting, HasStepped};
     ghost use Rattle.iol_journal.specs.declared.phase.Phase.TheVariants.{Body};
 
-    // A batch before its first step.
+    // Creates the value of a batch before its first step.
     pub(crate) fn begun(
         disk: D,
         parts: Parts,
@@ -159,7 +159,7 @@ impl<D: SectorDisk> Writing<D> {
         &self.disk
     }
 
-    /// The disk, to be recovered again.
+    /// Gives up the batch and returns the disk, to be recovered again.
     pub fn disk(self) -> D
         ensures { result ≡ self.disk }
     {
@@ -177,19 +177,20 @@ impl<D: SectorDisk> Writing<D> {
     /// Makes one disk call: the sectors of the body in order, a sync, the open gate, a sync.
     pub fn step(self) -> Progress<D>
         ensures call { StepMakes D.disk (calls_left self) result (D.disk self.disk) }
-        // A stop at any moment of it leaves the state before the batch, or the state after it.
+        // A power stop at any moment of it leaves the state before the batch or the state after it.
         ensures any_moment { IsUnderway D.disk self → LeavesOnly (D.disk self.disk) (D.disk (stepped_disk result))
             (KeptEither (D.disk self.disk).sectors self.standing.number self.standing.state self.commands) }
         ensures underway { IsUnderway D.disk self → IfMore result (λ w. IsUnderway D.disk w) }
         // Every image has the batch.
         ensures durable { IsUnderway D.disk self → IfDone result (λ journal _. IsAtRest (D.disk journal.disk) journal.standing journal.idle
             × EachMeans (D.disk journal.disk) journal.standing.number journal.standing.state) }
-        // A checkpoint that is paused stays as it is.
+        // A paused checkpoint does not change.
         ensures beside { IsBeside (D.disk self.disk) self.standing self.begun → IfMore result (λ w.
             IsBeside (D.disk w.disk) w.standing w.begun) }
         ensures paused { IsUnderway D.disk self → IsBeside (D.disk self.disk) self.standing self.begun → IfDone result (λ journal _.
             IsPaused (D.disk journal.disk) journal.standing journal.begun) }
-        // Each run whose batch this is goes on: each image since a moment of it has all that was acknowledged by then.
+        // Each run that has this batch underway continues: every image since a moment of the run has all commands
+        // acknowledged by then.
         ensures run { (r : Run) → IsRunWriting D.disk r self → HasStepped D.disk r result }
         ensures more { IfMore result (IsBatchMoved self) }
         ensures done { IfDone result (IsBatchDone self) }

@@ -7,7 +7,7 @@ use Rattle.iol_types.specs.DataSet.{Entry}
 use Rattle.iol_types.specs.State.{Stored, Port, State}
 use Rattle.iol_json.specs.Json.{entry_data, set_data, stored_data, port_data, ports_data, state_data}
 
--- what nests no deeper than two numbers, nests no deeper than the greater
+-- if two depths are at most a number, so is the greater of them
 within : (left right most : ℕ) → left ≤ most → right ≤ most → max left right ≤ most
 within left right most one other = grind arith
 
@@ -33,6 +33,6 @@ ports_shallow number (port ∷ ports) =
     within (depth (port_data number port)) (items_depth (items_of (ports_data (number + 1) ports))) 4 (port_shallow number port)
     (ports_shallow (number + 1) ports)
 
--- a state nests no deeper than a reader of JSON goes
+-- a state nests no deeper than a reader of JSON accepts
 pub state_shallow : (number : ℕ) (state : State) → depth (state_data number state) ≤ 127
 state_shallow number state = let ports = ports_shallow 1 state in grind arith

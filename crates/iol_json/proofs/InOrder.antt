@@ -1,4 +1,4 @@
--- One entry more, and one port more.
+-- The next entry of a set, and the next port of a state.
 use Rattle.std.proofs.Common.{◌≡◌, refl, ◌+◌, ◌-◌, ◌≤◌, ℕ, zero, suc, List, [], ◌∷◌, ◌++◌, map, Option, None, take, slice_get, sym, ap, ◌∙◌}
 use Rattle.std.proofs.Common.{add-one, arith}
 use Rattle.std.specs.Prelude.{Bool, true, nat_le, if◌then◌else◌}
@@ -9,7 +9,7 @@ use Rattle.iol_types.specs.DataSet.{Entry}
 use Rattle.iol_types.specs.State.{Port, State}
 use Rattle.iol_json.specs.Json.{entry_data, entry_at, port_data, ports_data, port_at}
 
--- the entries up to a place, and that at it
+-- the entries before a place, and then the entry at it
 pub entries_next : (entries : List Entry) (place : ℕ)
     → map entry_data (take place entries) ++ entry_at entries place ≡ map entry_data (take (place + 1) entries)
 entries_next entries place = behind entries place ∙ ap (λ (i : ℕ). map entry_data (take i entries)) (sym (add-one place))
@@ -21,11 +21,11 @@ entries_next entries place = behind entries place ∙ ap (λ (i : ℕ). map entr
     behind (entry ∷ entries) zero = refl
     behind (entry ∷ entries) (suc place) = ap (λ (others : List Data). entry_data entry ∷ others) (behind entries place)
 
--- a port that may be there
+-- a port, if it is there
 abbrev found_at : ℕ → Option Port → List Data
 found_at number port = option_map_or (λ found. port_data number found ∷ []) port []
 
--- the ports up to a place, and that at it
+-- the ports before a place, and then the port at it
 ports_behind : (first place : ℕ) (ports : List Port)
     → ports_data first (take place ports) ++ found_at (first + place) (slice_get ports place) ≡ ports_data first (take (suc place) ports)
 ports_behind first zero [] = refl
@@ -37,7 +37,7 @@ ports_behind first (suc place) (port ∷ ports) =
     ap (λ (n : ℕ). port_data first port ∷ (ports_data (first + 1) (take place ports) ++ found_at n (slice_get ports place))) same
     ∙ ap (λ (others : List Data). port_data first port ∷ others) (ports_behind (first + 1) place ports)
 
--- the ports of a state before a number, and that with this number
+-- the ports of a state before a number, and then the port with that number
 pub ports_next : (number : ℕ) (state : State) → 1 ≤ number
     → ports_data 1 (take (number - 1) state) ++ port_at state number ≡ ports_data 1 (take number state)
 ports_next zero state some = absurd (omega arith)

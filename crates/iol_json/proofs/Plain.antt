@@ -1,4 +1,4 @@
--- A port as JSON has whole numbers and texts alone.
+-- A port as JSON has only whole numbers, texts and null: no float.
 use Rattle.std.proofs.Common.{◌≡◌, refl, ℕ, List, [], ◌∷◌, map}
 use Rattle.std.specs.Prelude.{false, Option, Some, None}
 use Rattle.serde_json.specs.View.{items_of}

@@ -14,7 +14,7 @@ use Rattle.iol_types.specs.declared.config.PortConfig.{PortConfig}
 abbrev pub whole : ℕ → Data
 whole n = json.number (unsigned n)
 
--- a configuration, each number and the label by its name; names stand in the order of the alphabet (format, JSON)
+-- a configuration: its label and its numbers, each under its name; names are in alphabetical order (format, JSON)
 abbrev pub config_data : PortConfig → Data
 config_data config =
     object (member (codes "device") (whole config.device) (member (codes "label") (string config.label)
@@ -27,7 +27,7 @@ entry_data entry =
     object (member (codes "data") (string (encode_upper entry.1)) (member (codes "index") (whole entry.0.index)
     (member (codes "subindex") (whole entry.0.subindex) no_members)))
 
--- a stored set: its checksum, its parameters in order, what they count, and the configuration that it was taken under
+-- a stored set: its checksum, its parameters in order, the octets that they count, and the configuration under which it was taken
 -- (format, JSON)
 abbrev pub stored_data : Stored → Data
 stored_data stored =
@@ -35,7 +35,7 @@ stored_data stored =
     (member (codes "entries") (array (items_of (map entry_data stored.set.entries)))
     (member (codes "octets") (whole (octets_of stored.set.entries)) (member (codes "under") (config_data stored.recorded) no_members))))
 
--- a set of a port, or null where there is none (format, JSON)
+-- a set of a port, or null if there is none (format, JSON)
 abbrev pub set_data : Option Stored → Data
 set_data None = null
 set_data (Some stored) = stored_data stored
@@ -47,12 +47,12 @@ port_data number port =
     (member (codes "previous") (set_data port.previous) (member (codes "revision") (whole port.revision)
     (member (codes "set") (set_data port.stored) no_members)))))
 
--- ports in order, of which the first has this number (format, JSON)
+-- ports in order, the first of which has this number (format, JSON)
 abbrev pub ports_data : ℕ → List Port → List Data
 ports_data number [] = []
 ports_data number (port ∷ ports) = port_data number port ∷ ports_data (number + 1) ports
 
--- a state after so many commands: its ports, and that number (format, JSON)
+-- a state after this number of commands: its ports, and that number (format, JSON)
 abbrev pub state_data : ℕ → State → Data
 state_data number state =
     object (member (codes "ports") (array (items_of (ports_data 1 state))) (member (codes "recovered") (whole number) no_members))

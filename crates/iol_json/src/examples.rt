@@ -1,4 +1,4 @@
-//! States as JSON, worked out: the prover computes each of these.
+//! Examples of states as JSON: the prover computes each of them.
 
 ghost use Rattle.std.specs.Prelude.{◌≡◌, [], ◌∷◌, ◌++◌, codes, Some};
 ghost use Rattle.serde_json.specs.Data.{string, object, member, no_members};
@@ -21,7 +21,7 @@ pub fn a_state()
         ≡ Some (state_data 4 (example_port ∷ port_of example_config 7 ∷ [])) }
 {}
 
-/// A port whose set was taken under another label than it has now, and a reverse solidus, which JSON writes as two.
+/// A port whose set was taken under another label than its own, and a reverse solidus, which JSON writes as two.
 pub fn labels()
     ensures { read (codes "{\"port\": 1, \"revision\": 1, "
         ++ codes "\"configuration\": {\"mode\": 1, \"validation\": 3, \"vendor\": 500, \"device\": 43981, \"label\": \"A\\\\B & <C>\"}, "
@@ -50,7 +50,7 @@ pub fn previous_sets()
         ≡ Some (port_data 1 renewed_port) }
 {}
 
-/// A parameter without octets has an empty text, and the last revision stands whole.
+/// A parameter without octets has an empty text, and the last revision is written in full.
 pub fn ends_of_ranges()
     ensures no_octets { entry_data (record { index = 0x12AB; subindex = 0xFF }, [])
         ≡ object (member (codes "data") (string [])

@@ -1,10 +1,10 @@
 //! A master's state as JSON (RFC 8259), for scripts of plant staff.
 //!
-//! In comes a state, and after how many commands it stands; out comes one object, or its text, whose members are those of
+//! Takes a state and the number of commands that led to it, and returns one object, or its text, with the members of
 //! docs/FORMATS.md, "JSON". Read as JSON, the text is the state (`specs/Json.antt`). One port alone has an object too.
 //!
 //! Modules in reading order: `members` adds a member to an object, `entries` has the parameters of a set, `ports` the ports of a
-//! state, `state` the state and its text, and `examples` states worked out.
+//! state, `state` the state and its text, and `examples` has examples of states.
 #![tactic(auto)]
 
 mod entries;

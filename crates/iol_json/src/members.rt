@@ -1,4 +1,4 @@
-//! The members of an object, one after another.
+//! Adds the members of an object, one after another.
 ghost use Rattle.std.specs.Prelude.{◌≡◌, IfOk};
 ghost use Rattle.serde_json.specs.Data.{put as with_member};
 ghost use Rattle.serde_json.specs.View.{view, members_view};
@@ -6,7 +6,7 @@ ghost use Rattle.serde_json.specs.View.{view, members_view};
 use serde_json::{Map, Value, put};
 use std::alloc::{AllocError, Global};
 
-/// These members, and one with this name. One of the same name is replaced.
+/// Adds a member with this name to the members. It replaces one with the same name.
 pub fn with(
     alloc: Global,
     members: Map<String, Value>,

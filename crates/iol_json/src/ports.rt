@@ -54,7 +54,7 @@ fn push_found(
     Ok(())
 }
 
-// A port: its number, its revision, its configuration, the set that is stored for it, and the one before that.
+// A port: its number, its revision, its configuration, its stored set, and its previous set.
 pub(crate) fn port_of(alloc: Global, number: u8, port: &PortState) -> Result<Value, AllocError>
     ensures { IfOk result (λ value. view value ≡ port_data number port.now) }
 {
@@ -66,7 +66,7 @@ pub(crate) fn port_of(alloc: Global, number: u8, port: &PortState) -> Result<Val
     Ok(Value::Object(members))
 }
 
-// These members, and a configuration with this name.
+// Adds a configuration with this name to the members.
 fn with_config(
     alloc: Global,
     members: Map<String, Value>,
@@ -79,7 +79,7 @@ fn with_config(
     with(alloc, members, name, config)
 }
 
-// These members, and a set of a port with this name.
+// Adds a set of a port, or null, with this name to the members.
 fn with_set(
     alloc: Global,
     members: Map<String, Value>,
@@ -103,7 +103,7 @@ fn set_or_null(alloc: Global, stored: Option<&StoredSet>) -> Result<Value, Alloc
     }
 }
 
-// A stored set: its parameters, what they count, its checksum, and the configuration that it was taken under.
+// A stored set: its parameters, the octets that they count, its checksum, and the configuration under which it was taken.
 fn set_of(alloc: Global, stored: &StoredSet) -> Result<Value, AllocError>
     ensures { IfOk result (λ value. view value ≡ stored_data (stored_of stored.now)) }
 {
@@ -117,7 +117,7 @@ fn set_of(alloc: Global, stored: &StoredSet) -> Result<Value, AllocError>
     Ok(Value::Object(members))
 }
 
-// A configuration, each number and the label by its name.
+// A configuration: its label and its numbers, each under its name.
 fn config_of(alloc: Global, config: PortConfig) -> Result<Value, AllocError>
     ensures { IfOk result (λ value. view value ≡ config_data config) }
 {

@@ -9,7 +9,7 @@ use iol_types::{MasterState, PortId, PortState};
 use serde_json::{Value, json};
 use std::alloc::{AllocError, Global};
 
-/// A state after so many commands, with each of its ports (docs/FORMATS.md, "JSON").
+/// A state after `number` commands, with each of its ports (docs/FORMATS.md, "JSON").
 pub fn json_of(alloc: Global, number: u64, state: &MasterState) -> Result<Value, AllocError>
     ensures { IfOk result (λ value. view value ≡ state_data number state.now) }
 {
@@ -24,7 +24,7 @@ pub fn json_of_port(alloc: Global, port: PortId, state: &PortState) -> Result<Va
     port_of(alloc, port.number(), state)
 }
 
-/// The text of a state after so many commands: one object, laid out in lines, with no line's end behind it.
+/// The text of a state after `number` commands: one object, laid out in lines, without a line feed at the end.
 pub fn json_text(alloc: Global, number: u64, state: &MasterState) -> Result<String, AllocError>
     ensures { IfOk result (λ text. read (string_bytes text) ≡ Some (state_data number state.now)) }
 {

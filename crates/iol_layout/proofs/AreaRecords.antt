@@ -19,7 +19,7 @@ use Rattle.iol_layout.specs.declared.area.Area.{Area}
 use Rattle.iol_layout.proofs.Bodies.{octets_at-in_slot}
 use Rattle.iol_layout.proofs.Rows.{row-append, row-map, has-append, has-map}
 
--- each port is one, and a version spells it
+-- each port is in its ranges, and a version can encode it
 abbrev pub ArePorts : Version → State → Type 0
 ArePorts version [] = Unit {0}
 ArePorts version (port ∷ ports) = IsPortIn version port × ArePorts version ports
@@ -31,14 +31,14 @@ ports-append version (port ∷ first) second a b = (a.0, ports-append version fi
 
 -- ---- one record
 
--- octets that were padded fill their sectors
+-- padded octets fill their sectors
 pub length-padded : (octets : List ℕ) → length (padded octets) ≡ SECTOR_OCTETS * sectors_reached (length octets)
 unfolding padded
 length-padded octets =
     let zeros = SECTOR_OCTETS * sectors_reached (length octets) - length octets in
     omega (arith, length-append octets (replicate {A = ℕ} zeros 0), length-replicate {A = ℕ} zeros 0)
 
--- whatever stands behind them, they are read as the port whose record they are
+-- whatever follows them, they are read as the port whose record they are
 read-padded : (version : Version) (port : Port) (rest : List ℕ) → IsPortIn version port
     → port_of (port_record_at version (padded (port_octets version port) ++ rest)) ≡ Some port
 unfolding padded
@@ -48,7 +48,7 @@ read-padded version port rest is =
     ap (λ (all : List ℕ). port_of (port_record_at version all)) (append_assoc octets zeros rest)
     ∙ ap port_of (port_record_at-record version octets (zeros ++ rest) port (record { spelling = refl; in_range = is.0; spelled = is.1 }))
 
--- a record reaches the sectors that have room for the largest, at most
+-- a record reaches at most the sectors that hold the largest record
 reaches : (version : Version) (port : Port) (sectors : ℕ) → IsPort port → largest_port_record version ≤ SECTOR_OCTETS * sectors
     → sectors_reached (length (port_octets version port)) ≤ sectors
 reaches version port sectors is room = let long = length-port_octets version port is in omega (arith, long.1, room)

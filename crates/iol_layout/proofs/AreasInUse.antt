@@ -1,4 +1,4 @@
--- The area in use: of the open ones that with the greatest epoch, where its header is sound.
+-- The area in use: the open one with the greatest epoch, if its header is sound.
 use Rattle.std.proofs.Common.{◌≡◌, ◌<◌, ℕ, ◌==◌, nat_lt, Bool, true, false, if◌then◌else◌, Option, Some, None, Ok, Err, refl, sym}
 use Rattle.std.proofs.Common.{◌∙◌, ap, subst, arith}
 use Rattle.std.proofs.lemmas.Bool.Decides.{nat_tests}
@@ -12,12 +12,12 @@ use Rattle.iol_layout.specs.declared.header.Header.{Header}
 use Rattle.iol_layout.specs.declared.in_use.InUse.{InUse}
 use Rattle.iol_layout.proofs.Chains.{if_sound-ok}
 
--- of two headers that of an area
+-- the header of an area, of two headers
 abbrev pub of : Area → Option Header → Option Header → Option Header
 of A a b = a
 of B a b = b
 
--- the header is not there, or older
+-- there is no header, or it is older
 abbrev pub IsBefore : ℕ → Option Header → Type 0
 IsBefore epoch None = Unit {0}
 IsBefore epoch (Some header) = header.epoch < epoch
@@ -64,7 +64,7 @@ found layout a header (Some x) (Some y) is = by_epochs (x.epoch == y.epoch) (nat
     by_epochs false true is = second (is_use layout B a y header is)
     by_epochs false false is = first (is_use layout A a x header is)
 
--- an area is in use whose header is sound, where the other's is not there or older
+-- an area is in use if its header is sound and the other area has none or an older one
 chosen : (layout : Layout) (a : Area) (header : Header) (x y : Option Header) → of a x y ≡ Some header → is_sound header ≡ true
     → IsBefore header.epoch (of (other a) x y)
     → greatest layout x y ≡ Ok (record { area = a; header = header })

@@ -20,7 +20,7 @@ use Rattle.iol_layout.specs.declared.header.TheConstants.{LAST_NUMBER}
 use Rattle.iol_layout.specs.declared.body.TheConstants.{MOST_COMMANDS, BODY_HEAD_OCTETS, EPOCH_OCTETS}
 use Rattle.iol_layout.proofs.Sectors.{octets_at-add}
 
--- in front of the records of other commands, these octets are read as these commands
+-- before the records of other commands, these octets are read as these commands
 pub record Encodes (octets : List ℕ) (commands : List CommandValue) : Type 0 where
   pub reads : (n : ℕ) (rest : List ℕ) (others : List CommandValue) → commands_of newest n rest ≡ Some others
       → commands_of newest (length commands + n) (octets ++ rest) ≡ Some (commands ++ others)
@@ -69,7 +69,7 @@ behind image body first k (suc n) written whole =
     let next : SECTOR_OCTETS * (k + 1) ≡ SECTOR_OCTETS * k + SECTOR_OCTETS = omega arith in
     rw (place, here, there, width, next, ← drop-drop) (take-append-drop SECTOR_OCTETS (drop (SECTOR_OCTETS * k) body))
 
--- a body that lies sector by sector in an image is read as it is
+-- a body that is in an image, sector by sector, is read unchanged
 pub octets_at-body : (image : Image) (body : List ℕ) (first n : ℕ) → ((j : ℕ) → j < n → image (first + j) ≡ sector_of body j) → length body
     ≡ SECTOR_OCTETS * n
     → octets_at image first n ≡ body
@@ -77,7 +77,7 @@ octets_at-body image body first n written whole =
     ap (λ (place : ℕ). octets_at image place n) (sym (add-zero first))
     ∙ behind image body first 0 n (λ j above below. written j (omega arith)) (omega arith)
 
--- whatever stands in the sectors behind it
+-- the same whatever is in the sectors after it
 pub octets_at-in_slot : (image : Image) (body : List ℕ) (first n m : ℕ) → ((j : ℕ) → j < n → image (first + j) ≡ sector_of body j)
     → length body ≡ SECTOR_OCTETS * n → n ≤ m
     → (rest : List ℕ) × (octets_at image first m ≡ body ++ rest)
@@ -106,7 +106,7 @@ fits-true : (epoch first count octets : ℕ) → 1 ≤ count → count ≤ MOST_
     → fits (record { epoch = epoch; first = first; count = count; octets = octets }) epoch first ≡ true
 fits-true epoch first count octets some most last = grind (arith, nat_tests)
 
--- one command more of a list of commands
+-- one more command of a list of commands
 pub values-more : (commands : List Command) (i : ℕ) (command : Command) → i < length commands → command ≡ get_or commands i command
     → values (take (i + 1) commands) ≡ values (take i commands) ++ value_of command ∷ []
 values-more commands i command below is =
@@ -137,7 +137,7 @@ batch_of-body epoch first commands rest small some most short last is =
     )
     is
 
--- a body that was written tells of the octets of its records
+-- the head of a body that was written says the number of octets of its records
 pub head_of-body_octets : (epoch first : ℕ) (commands : List CommandValue) → length (records_of commands) < 2 ^ 32
     → (head_of (body_octets epoch first commands)).octets ≡ length (records_of commands)
 unfolding body_octets padded head_of
@@ -148,7 +148,7 @@ head_of-body_octets epoch first commands short =
     ap (number_at w32 18) (append_assoc head records zeros)
     ∙ head-octets epoch first (length commands) (length records) (records ++ zeros) short
 
--- the sectors of a body
+-- the number of sectors of a body
 pub length-body : (epoch first : ℕ) (commands : List CommandValue)
     → length (body_octets epoch first commands) ≡ SECTOR_OCTETS * sectors_reached (BODY_HEAD_OCTETS + length (records_of commands))
 unfolding body_octets padded
@@ -160,7 +160,7 @@ length-body epoch first commands =
     let zeros = SECTOR_OCTETS * sectors_reached (length front) - length front in
     omega (arith, length-append front (replicate {A = ℕ} zeros 0), length-replicate {A = ℕ} zeros 0, size)
 
--- under another epoch a body differs in its first octets alone
+-- under another epoch a body differs only in its first octets
 pub body_octets-under : (epoch other first : ℕ) (commands : List CommandValue)
     → to_be_bytes w64 other ++ drop EPOCH_OCTETS (body_octets epoch first commands) ≡ body_octets other first commands
 unfolding body_octets padded
@@ -180,13 +180,13 @@ batch_of-body_octets epoch first commands rest small some most short last is =
     ap (batch_of newest epoch first) (append_assoc (head ++ records) zeros rest ∙ append_assoc head records (zeros ++ rest))
     ∙ batch_of-body epoch first commands (zeros ++ rest) small some most short last is
 
--- the records of one command more
+-- the records of one more command
 pub records-more : (octets front : List ℕ) (commands : List CommandValue) (command : CommandValue) → octets ≡ records_of commands
     → IsCommandRecord newest front command
     → octets ++ front ≡ records_of (commands ++ command ∷ [])
 records-more octets front commands command so_far is = rw (so_far, is.spelling) (flat_map_more (command_octets newest) [] commands command)
 
--- the records of one command more
+-- the records of one more command
 pub length-records-more : (commands : List CommandValue) (command : CommandValue)
     → length (records_of (commands ++ command ∷ [])) ≡ length (records_of commands) + length (command_octets newest command)
 length-records-more commands command =

@@ -1,4 +1,4 @@
--- What a write in the first free slots makes of a kept image.
+-- How a write in the first free slots changes a kept image.
 use Rattle.std.proofs.Common.{◌≡◌, ◌≤◌, ◌<◌, ◌⊎◌, inl, inr, ℕ, ◌+◌, true, false, if◌then◌else◌, List, length, Option, Some, None, Ok, refl}
 use Rattle.std.proofs.Common.{◌∙◌, ap, arith}
 use Rattle.std.proofs.lemmas.Bool.{cases_lt}
@@ -25,12 +25,12 @@ use Rattle.iol_layout.proofs.Sectors.{ports_from-same}
 use Rattle.iol_layout.proofs.Logs.{log-same, log-more}
 use Rattle.iol_layout.proofs.Spans.{slots_of-some}
 
--- outside of the first free slots, so many, the images are the same, and so are the gates of all slots but the first free one
+-- outside of the first `n` free slots the images are the same, and so are the gates of all slots except the first free one
 pub record SameButSlots (s : Standing) (n : ℕ) (old new : Image) : Type 0 where
   pub outside : (i : ℕ) → (i < slot_at s.layout s.area s.used) ⊎ (slot_at s.layout s.area (s.used + n) ≤ i) → new i ≡ old i
   pub gates : (k : ℕ) → s.used < k → new (slot_at s.layout s.area k) ≡ old (slot_at s.layout s.area k)
 
--- the gate and the header of an area lie outside of the slots of each area
+-- the gate and the header of an area are outside of the slots of each area
 gate_apart : (layout : Layout) (a b : Area) (k : ℕ) → (gate_at layout b + 1 < slot_at layout a k)
     ⊎ (slot_at layout a layout.slots ≤ gate_at layout b)
 gate_apart layout A A k = inl (omega arith)
@@ -96,13 +96,13 @@ module _ (s : Standing) (n : ℕ) (old new : Image) (room : s.used + n ≤ s.lay
   idle_same Older is = rw (at_header (other s.area)) is
   idle_same Closed is = ap is_open (at_gate (other s.area)) ∙ is
 
--- the gates behind the first free slot stay closed
+-- the gates after the first free slot stay closed
 rest_same : (s : Standing) (n : ℕ) (old new : Image) → SameButSlots s n old new
     → ((k : ℕ) → s.used ≤ k → k < s.layout.slots → is_open (old (slot_at s.layout s.area k)) ≡ false)
     → (k : ℕ) → s.used < k → k < s.layout.slots → is_open (new (slot_at s.layout s.area k)) ≡ false
 rest_same s n old new same rest k above below = ap is_open (same.gates k above) ∙ rest k (omega (arith, above)) below
 
--- Behind a closed gate the slots may hold anything.
+-- after a closed gate the slots may hold anything
 pub kept_closed : (sectors : ℕ) (s : Standing) (n : ℕ) (idle : Idle) (old new : Image) → s.used + n ≤ s.layout.slots → 1 ≤ n
     → SameButSlots s n old new
     → IsKeptAs sectors s idle old → is_open (new (slot_at s.layout s.area s.used)) ≡ false → IsKeptAs sectors s idle new
@@ -125,7 +125,7 @@ kept_closed sectors s n idle old new room some same kept shut = stand (stands_re
       other_area = idle_same s n old new room some same idle kept.other_area;
     }
 
--- Behind its open gate a batch counts.
+-- a batch whose gate is open counts
 pub kept_open : (sectors : ℕ) (s : Standing) (idle : Idle) (old new : Image) (commands : List CommandValue)
     → s.layout.version ≡ newest → s.used + slots_for commands ≤ s.layout.slots
     → SameButSlots s (slots_for commands) old new

@@ -23,7 +23,7 @@ is_in_range-true g is = grind (arith, nat_tests, is.some_port, is.most_ports, is
 two_octets : (n : ℕ) → n ≤ 256 → n / 256 % 256 * 256 + n % 256 ≡ n
 two_octets n small = omega arith
 
--- a geometry is read as it is said
+-- a geometry is read as it was written
 pub geometry_of-octets : (g : Geometry) → IsInRange g → geometry_of (geometry_octets g) ≡ Some g
 unfolding geometry_of padded
 geometry_of-octets g is = rw (two_octets g.slots is.most_slots, is_in_range-true g is) refl
@@ -82,7 +82,7 @@ geometry_in-is sectors image g is =
         sound true is = kept h (nat_lt (given_up Two h.ports) h.slots) refl is
         sound false is = search rules
 
--- a slot, with its gate and its body, lies within the sectors of the journal
+-- a slot, with its gate and its body, is within the sectors of the journal
 pub slot-inside : (layout : Layout) (a : Area) (k : ℕ) → k < layout.slots → slot_at layout a k + 1 + BODY_SECTORS ≤ total layout
 slot-inside layout A k below = omega arith
 slot-inside layout B k below = omega arith

@@ -1,4 +1,4 @@
--- The layouts of a geometry: areas have one size in every version, so that gates and headers stand where they do in each.
+-- The layouts of a geometry: areas have the same size in every version, so that gates and headers are in the same places.
 use Rattle.std.proofs.Common.{◌≡◌, ◌≤◌, ◌<◌, ℕ, ◌+◌, ◌*◌, ◌==◌, true, nat_lt, if◌then◌else◌, Option, Some, None, Err, refl, sym}
 use Rattle.std.proofs.Common.{◌∙◌, ap, subst, arith}
 use Rattle.iol_record.specs.declared.version.Version.{Version}
@@ -18,7 +18,7 @@ use Rattle.iol_layout.specs.declared.header.Header.{Header}
 use Rattle.iol_disk.specs.declared.slot.TheConstants.{BODY_SECTORS}
 use Rattle.iol_layout.specs.declared.geometry.TheConstants.{PORT_SECTORS}
 
--- in every version an area has as many sectors
+-- an area has the same number of sectors in every version
 pub area_size : (version : Version) (ports slots : ℕ)
     → area_sectors (placed version ports slots) ≡ 2 + PORT_SECTORS * ports + (1 + BODY_SECTORS) * (slots + given_up version ports)
 area_size One ports slots = omega arith
@@ -33,7 +33,7 @@ pub size-laid_out : (version : Version) (g : Geometry) → IsGeometry g
     → area_sectors (laid_out version g) ≡ 2 + PORT_SECTORS * g.ports + (1 + BODY_SECTORS) * g.slots
 size-laid_out version g is = omega (arith, area_size version g.ports (kept_slots version g), kept-all version g is)
 
--- so a disk is as large in each version
+-- a disk has the same size in each version
 pub same_total : (version : Version) (g : Geometry) → IsGeometry g → total (laid_out version g) ≡ total (laid_out One g)
 same_total version g is = omega (arith, size-laid_out version g is, size-laid_out One g is)
 
@@ -42,7 +42,7 @@ pub size-of : (layout : Layout) (g : Geometry) → IsGeometry g → layout ≡ l
     → area_sectors (layout_of g) ≡ area_sectors layout
 size-of layout g is so = size-laid_out newest g is ∙ sym (ap area_sectors so ∙ size-laid_out layout.version g is)
 
--- the geometry of a layout is one
+-- the geometry of a layout is in its ranges, and keeps a slot in version 2
 pub geometry_is : (layout : Layout) → IsLayout layout → IsGeometry (geometry_for layout)
 geometry_is layout is =
     let all : geometry_for (laid_out layout.version is.geometry) ≡ is.geometry =
@@ -60,7 +60,7 @@ size-renewed layout is = by_version layout.version is.so
         ∙ sym (ap area_sectors so ∙ size-laid_out One is.geometry is.is)
     by_version Two so = refl
 
--- and one that is renewed stays as it is
+-- a layout that is renewed already is unchanged
 pub renewed-newest : (layout : Layout) → layout.version ≡ newest → renewed layout ≡ layout
 renewed-newest layout is = ap (λ (version : Version). renewed_from version layout) is
 
@@ -83,7 +83,7 @@ renewed-so layout g so = by_version layout.version so
 pub renewed-is : (layout : Layout) → IsLayout layout → IsLayout (renewed layout)
 renewed-is layout is = record { geometry = is.geometry; is = is.is; so = renewed-so layout is.geometry is.so }
 
--- it is in the version that is written
+-- a renewed layout is in the version that is written
 pub renewed-version : (layout : Layout) → (renewed layout).version ≡ newest
 renewed-version layout = by_version layout.version refl
   where
@@ -91,7 +91,7 @@ renewed-version layout = by_version layout.version refl
     by_version One is = refl
     by_version Two is = is
 
--- behind that it stays so
+-- a layout counts as renewed after that
 pub renewed-renewed : (layout : Layout) → is_renewed (renewed layout) ≡ true
 renewed-renewed layout = by_version layout.version refl
   where
@@ -102,7 +102,7 @@ renewed-renewed layout = by_version layout.version refl
 pub renewed-twice : (layout : Layout) → renewed (renewed layout) ≡ renewed layout
 renewed-twice layout = renewed-same (renewed layout) (renewed-renewed layout)
 
--- it keeps a slot, and has the same ports
+-- a renewed layout keeps a slot, and has the same ports
 pub renewed-some : (layout : Layout) → IsLayout layout → 1 ≤ (renewed layout).slots
 renewed-some layout is = by_version layout.version is.so
   where
@@ -117,7 +117,7 @@ renewed-ports layout = by_version layout.version
     by_version One = refl
     by_version Two = refl
 
--- the next epoch of one that is renewed may begin behind a command, and that of an older one at once
+-- the next epoch of a renewed layout may begin after a command, and that of an older one at once
 pub one-ahead : (layout : Layout) (epoch number : ℕ) → epoch ≤ number + epochs_ahead layout.version
     → (is_renewed layout ≡ true → epoch < number + epochs_ahead layout.version)
     → epoch + 1 ≤ number + epochs_ahead (renewed layout).version
@@ -128,7 +128,7 @@ one-ahead layout epoch number begun used = by_version layout.version refl
     by_version One is = omega (arith, begun, ap epochs_ahead is)
     by_version Two is = omega (arith, used (ap is_newest is))
 
--- ---- where areas have one size
+-- ---- where areas have the same size
 
 module _ (one other : Layout) (size : area_sectors one ≡ area_sectors other) where
   pub gate-same : (a : Area) → gate_at one a ≡ gate_at other a

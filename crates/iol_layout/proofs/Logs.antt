@@ -1,4 +1,4 @@
--- The slots of an image, read up to the first head place whose gate is closed.
+-- The slots of an image, read up to the first closed gate at which a batch could begin.
 use Rattle.std.proofs.Common.{◌≡◌, ◌≤◌, ◌<◌, ℕ, zero, suc, ◌+◌, ◌-◌, true, false, if◌then◌else◌, List, length, Option, Some, Result, Ok}
 use Rattle.std.proofs.Common.{refl, sym, ◌∙◌, ap, subst, arith}
 use Rattle.iol_types.specs.Command.{CommandValue}
@@ -13,7 +13,7 @@ use Rattle.iol_layout.specs.declared.area.Area.{Area}
 use Rattle.iol_layout.proofs.Chains.{ok, by_test, bind_ok, bind_same, if_sound-ok, or_damaged-ok}
 use Rattle.iol_layout.proofs.Spans.{slots_of-some, body_in-same, span_in-same, batch_in-within, batch_in-there, batch_in-same}
 
--- the first slot is open: its commands, which pass, and what is read behind it
+-- the first slot is open: its commands, which pass, and what is read after it
 pub record IsOpened (layout : Layout) (a : Area) (epoch : ℕ) (image : Image) (k left number : ℕ) (state : State) (log : Log) : Type 0 where
   pub commands : List CommandValue
   pub batch : batch_in layout a epoch image k (suc left) (number + 1) ≡ Some commands
@@ -52,7 +52,7 @@ goes_on layout a epoch image k left number state log open_gate is =
 same_log : (x y : Log) → ok x ≡ Ok y → x ≡ y
 same_log x y is = cc
 
--- slots that belong to the batch before are left out
+-- slots that belong to the batch before are skipped
 pub log-skipped : (layout : Layout) (a : Area) (epoch : ℕ) (image : Image) (k n left number : ℕ) (state : State) → n ≤ left
     → log_from layout a epoch image k n left number state ≡ log_from layout a epoch image (k + n) 0 (left - n) number state
 log-skipped layout a epoch image k zero left number state within =
@@ -68,13 +68,13 @@ log-skipped layout a epoch image k (suc n) (suc left) number state within =
     ∙ ap (λ (i : ℕ). log_from layout a epoch image i 0 (left - n) number state) place
     ∙ ap (λ (i : ℕ). log_from layout a epoch image (k + suc n) 0 i number state) count
 
--- the slots of the first batch are there
+-- the slots of the first batch exist
 first_within : (layout : Layout) (a : Area) (epoch : ℕ) (image : Image) (k left number : ℕ) (state : State) (log : Log)
     → IsOpened layout a epoch image k left number state log → span_in layout a image k ≤ suc left
 first_within layout a epoch image k left number state log o =
     (batch_in-within layout a epoch image k (suc left) (number + 1) o.commands o.batch).0
 
--- no fewer slots are used than were behind
+-- at least the slots that were passed are used
 pub used_from : (layout : Layout) (a : Area) (epoch : ℕ) (image : Image) (k skipped left number : ℕ) (state : State) (log : Log)
     → skipped ≤ left
     → log_from layout a epoch image k skipped left number state ≡ Ok log → (k + skipped ≤ log.used) × (log.used ≤ k + left)
@@ -94,7 +94,7 @@ used_from layout a epoch image k zero (suc left) number state log within is = by
     let is' : ok (record { used = k; number = number; state = state }) ≡ Ok log = rw at at is in
     let e : k ≡ log.used = ap (λ (l : Log). l.used) (same_log _ log is') in (omega arith, omega arith))
 
--- Where two images are the same in the used slots, an open slot leads as far in both.
+-- if two images are the same in the used slots, an open slot leads equally far in both
 open-same : (layout : Layout) (a : Area) (epoch : ℕ) (old new : Image) (k left number : ℕ) (state : State) (log end : Log)
     → is_open (old (slot_at layout a k)) ≡ true → (o : IsOpened layout a epoch old k left number state log)
     → ((i : ℕ) → slot_at layout a k ≤ i → i < slot_at layout a log.used → new i ≡ old i)
@@ -120,7 +120,7 @@ open-same layout a epoch old new k left number state log end at o same leads =
           ∙ leads;
     })
 
--- Images that are the same in the used slots, with a closed gate behind them, have the same log.
+-- images that are the same in the used slots, with a closed gate after them, have the same log
 pub log-same : (layout : Layout) (a : Area) (epoch : ℕ) (old new : Image) (k skipped left number : ℕ) (state : State) (log : Log)
     → skipped ≤ left
     → log_from layout a epoch old k skipped left number state ≡ Ok log
@@ -145,7 +145,7 @@ log-same layout a epoch old new k zero (suc left) number state log within is sam
     let closed : is_open (new (slot_at layout a k)) ≡ false = rw e (shut (omega arith)) in
     rw closed is')
 
--- the batch at the end of a log, and a closed gate behind it
+-- the batch at the end of a log, and a closed gate after it
 at_end : (layout : Layout) (a : Area) (epoch : ℕ) (new : Image) (n left : ℕ) (log : Log) (commands : List CommandValue)
     → is_open (new (slot_at layout a log.used)) ≡ true
     → span_in layout a new log.used ≡ n → n ≤ suc left
@@ -180,7 +180,7 @@ at_end layout a epoch new n left log commands open_gate span within batch passes
     last zero closed = refl
     last (suc rest) closed = let shut' : is_open (new (slot_at layout a (log.used + n))) ≡ false = closed (omega arith) in rw shut' refl
 
--- With the gate of the first free slot open before a batch, the log has it.
+-- if the gate of the first free slot is open before a batch, the log has the batch
 pub log-more : (layout : Layout) (a : Area) (epoch : ℕ) (old new : Image) (k skipped left number n : ℕ) (state : State) (log : Log)
     (commands : List CommandValue) → skipped ≤ left
     → log_from layout a epoch old k skipped left number state ≡ Ok log
@@ -221,7 +221,7 @@ log-more layout a epoch old new k zero (suc left) number n state log commands wi
     (at_end layout a epoch new n left log commands open_gate span (omega (arith, room, e)) batch passes
     (λ less. shut (omega (arith, less, e)))))
 
--- Images that are the same in all slots have the same log.
+-- images that are the same in all slots have the same log
 pub log_from-same : (layout : Layout) (a : Area) (epoch : ℕ) (old new : Image) (k skipped left number : ℕ) (state : State)
     → ((i : ℕ) → slot_at layout a k ≤ i → i < slot_at layout a (k + left) → new i ≡ old i)
     → log_from layout a epoch new k skipped left number state ≡ log_from layout a epoch old k skipped left number state

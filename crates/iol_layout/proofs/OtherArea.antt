@@ -38,7 +38,7 @@ idle_before s Closed image is = rw is tt
 abbrev pub SameButArea : Layout → Area → Image → Image → Type 0
 SameButArea layout b old new = (i : ℕ) → (i < gate_at layout b) ⊎ (gate_at layout b + area_sectors layout ≤ i) → new i ≡ old i
 
--- where the sectors of an area lie
+-- where the sectors of an area are
 outside : (layout : Layout) (a : Area) (i : ℕ) → gate_at layout a ≤ i → i < gate_at layout a + area_sectors layout
     → (i < gate_at layout (other a)) ⊎ (gate_at layout (other a) + area_sectors layout ≤ i)
 outside layout A i above below = inl (omega (arith, below))
@@ -64,7 +64,7 @@ module _ (s : Standing) (old new : Image) (same : SameButArea s.layout (other s.
       let header : new (header_at s.layout s.area) ≡ old (header_at s.layout s.area) = in_area _ (omega arith) (omega arith) in
       rw (gate, header) refl
 
-  -- while the other area is harmless the journal stands as before
+  -- while the other area is harmless, the standing of the journal is as before
   stands : (sectors base : ℕ) (ports : State) (idle : Idle) → IsRead sectors old s base ports → IsIdle s idle new
       → IsRead sectors new s base ports
   stands sectors base ports idle is harmless =
@@ -91,7 +91,7 @@ module _ (s : Standing) (old new : Image) (same : SameButArea s.layout (other s.
 
 -- ---- an area that was written whole
 
--- with all slots closed it has no log but its base
+-- with all slots closed, the log of an area is only its base
 pub log-none : (layout : Layout) (a : Area) (epoch : ℕ) (image : Image) (left base : ℕ) (state : State)
     → (0 < left → is_open (image (slot_at layout a 0)) ≡ false)
     → log_from layout a epoch image 0 0 left base state ≡ Ok (record { used = 0; number = base; state = state })
@@ -105,7 +105,7 @@ pub record IsWhole (layout : Layout) (a : Area) (header : Header) (state : State
   pub head : header_of (image (header_at layout a)) ≡ header
   pub ports_are : ports_from layout a image 0 layout.ports ≡ Ok state
 
--- how a journal stands that was written so
+-- the standing of a journal that was written so
 abbrev pub standing_with : Layout → Area → Header → State → Standing
 standing_with layout a header state =
     record { layout = layout; area = a; epoch = header.epoch; used = 0; number = header.base; state = state }

@@ -1,4 +1,4 @@
--- Octets and the zeros behind them in their sectors.
+-- Octets, and the zeros after them in their sectors.
 use Rattle.std.proofs.Common.{◌≡◌, ◌≤◌, ◌<◌, ℕ, zero, suc, ◌-◌, ◌*◌, List, ◌++◌, length, take, drop, replicate, refl, ◌∙◌, ap, arith}
 use Rattle.std.proofs.lemmas.List.{take_all}
 use Rattle.iol_disk.specs.declared.disk.TheConstants.{SECTOR_OCTETS}
@@ -8,7 +8,7 @@ use Rattle.iol_layout.specs.Octets.{sectors_reached, padded}
 pub one_sector : (n : ℕ) → 0 < n → n ≤ SECTOR_OCTETS → SECTOR_OCTETS * sectors_reached n ≡ SECTOR_OCTETS
 one_sector n some most = omega arith
 
--- without the first n of them, zeros are so many fewer
+-- without the first n of them, there are n fewer zeros
 pub drop-zeros : (n m : ℕ) → n ≤ m → drop {A = ℕ} n (replicate m 0) ≡ replicate {A = ℕ} (m - n) 0
 drop-zeros zero m within = let all : m - 0 ≡ m = omega arith in rw all refl
 drop-zeros (suc n) zero within = absurd (omega arith)

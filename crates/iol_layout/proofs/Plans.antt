@@ -1,4 +1,4 @@
--- What a plan of an area has, and where it writes.
+-- What a plan of an area contains, and where it writes.
 use Rattle.std.proofs.Common.{◌≡◌, ◌≤◌, ◌<◌, ℕ, List, length, map, slice_get, get_or, Option, Some, None}
 use Rattle.std.proofs.Common.{refl, sym, ◌∙◌, ap, subst, arith}
 use Rattle.std.proofs.lemmas.List.{length-map}
@@ -20,12 +20,12 @@ module _ (layout : Layout) (a : Area) (header : Header) (state : State) (plan : 
   pub length-plan : length plan.records.items ≡ length (port_writes layout a 0 state)
   length-plan = sym (length-map plan.records.items write_of) ∙ ap (λ (calls : List Call). length calls) is.records_are
 
--- an area's slots begin on the disk
+-- an area's slots begin within the sectors of the journal
 slots-inside : (layout : Layout) (a : Area) → slot_at layout a 0 ≤ total layout
 slots-inside layout A = omega arith
 slots-inside layout B = omega arith
 
--- the records of a plan lie on the disk
+-- the records of a plan are on the disk
 pub plan-row : (sectors : ℕ) (layout : Layout) (a : Area) (header : Header) (state : State) (plan : AreaPlan) → total layout ≤ sectors
     → AreRecords layout a state
     → IsAreaPlan layout a header state plan → IsRow 0 sectors (map write_of plan.records.items)
@@ -35,20 +35,20 @@ plan-row sectors layout a header state plan fits records is =
     (row-wider (port_at layout a 0) 0 sectors _ (omega arith)
     (row-higher (port_at layout a 0) (slot_at layout a 0) sectors _ (omega (arith, fits, inside)) records.row))
 
--- the sector in a place, as it is found
+-- the sector at a place, as it is found
 pub found-there : (items : List RecordSector) (i : ℕ) (found : RecordSector) → i < length items → found ≡ get_or items i found
     → slice_get (map write_of items) i ≡ Some (write_of found)
 found-there items i found below is = slice_get-map write_of items i
     ∙ ap (option_map write_of) (slice_get_read items (length items) i found refl below is)
 
--- the same of a slice of them
+-- the same for a slice of them
 pub shown-there : (items shown : List RecordSector) (i : ℕ) (d : RecordSector) → shown ≡ items → i < length shown
     → slice_get (map write_of items) i ≡ Some (write_of (get_or shown i d))
 shown-there items shown i d same below =
     subst (λ (all : List RecordSector). slice_get (map write_of all) i ≡ Some (write_of (get_or shown i d))) same
     (slice_get-map write_of shown i ∙ ap (option_map write_of) (slice_get-get_or shown i d below))
 
--- it lies on the disk
+-- it is on the disk
 pub sector-inside : (sectors : ℕ) (calls : List Call) (i : ℕ) (found : RecordSector) → IsRow 0 sectors calls → slice_get calls i
     ≡ Some (write_of found) → found.sector < sectors
 sector-inside sectors calls i found row there =

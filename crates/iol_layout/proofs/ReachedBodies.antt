@@ -1,4 +1,4 @@
--- The batch of a slot's body lies in the sectors that its records reach.
+-- The batch of a slot's body is in the sectors that its records reach.
 use Rattle.std.proofs.Common.{◌≡◌, ◌≤◌, ℕ, ◌+◌, ◌-◌, ◌*◌, true, false, if◌then◌else◌, List, [], ◌++◌, length, take, drop, None}
 use Rattle.std.proofs.Common.{refl, sym, ◌∙◌, ap, subst, arith, add-zero}
 use Rattle.std.specs.Int.{w16, w32, w64, from_be_bytes}
@@ -27,7 +27,7 @@ first_read now first body longer none more h =
     more h ∙ ap (λ (octets : List ℕ). octets ++ reads now.content (first + 0)) none
     ∙ ap (reads now.content) (add-zero first) ∙ sym (octets_at-one (reads now.content) first)
 
--- one sector more is read
+-- one more sector is read
 pub one_more : (old now : Disk) (first j : ℕ) (body longer : List ℕ) → Same old now
     → Shows old (λ image. body ≡ octets_at image first j)
     → Shows now (λ image. longer ≡ body ++ image (first + j))
@@ -53,7 +53,7 @@ pub first_of_body : (d : Disk) (first : ℕ) (body : List ℕ) → Shows d (λ i
     → Shows d (λ image. body ≡ octets_at (of_body first image) 0 1)
 first_of_body d first body read h = first_of (reads d.content) first body (read h)
 
--- one sector more of a body is read
+-- one more sector of a body is read
 pub next_of : (image : Image) (first j : ℕ) (body longer : List ℕ) → body ≡ octets_at (of_body first image) 0 j
     → longer ≡ body ++ image (body_sector first j)
     → longer ≡ octets_at (of_body first image) 0 (j + 1)
@@ -88,7 +88,7 @@ head_of-append body more some = λ i. record {
   octets = ap (from_be_bytes w32) (front-kept 4 18 body more (omega arith)) i;
 }
 
--- the head stands in the first sector
+-- the head is in the first sector
 pub head_of-first : (body : List ℕ) (sectors : ℕ) → length body ≡ SECTOR_OCTETS * sectors → 1 ≤ sectors
     → head_of (sector_of body 0) ≡ head_of body
 head_of-first body sectors whole some =
@@ -96,7 +96,7 @@ head_of-first body sectors whole some =
     sym (head_of-append (take SECTOR_OCTETS body) (drop SECTOR_OCTETS body) (omega (arith, first)))
     ∙ ap head_of (take-append-drop SECTOR_OCTETS body)
 
--- behind the octets that the head tells of nothing is read
+-- nothing is read after the octets that the head says
 batch_of-append : (version : Version) (epoch first : ℕ) (body more : List ℕ) → BODY_HEAD_OCTETS ≤ length body
     → HoldsRecords body
     → batch_of version epoch first (body ++ more) ≡ batch_of version epoch first body
@@ -110,7 +110,7 @@ batch_of-append version epoch first body more some reach = rw (head_of-append bo
         ap (λ octets. if fits head epoch first then commands_of version head.count octets else None)
         (front-kept head.octets BODY_HEAD_OCTETS body more reach)
 
--- the sectors from the first on begin with it
+-- the sectors from the first one on begin with that one
 first_sector : (image : Image) (sector n : ℕ) (front body : List ℕ) → 1 ≤ n → front ≡ octets_at image sector 1 → body
     ≡ octets_at image sector n
     → body ≡ front ++ octets_at image (sector + 1) (n - 1)
@@ -119,7 +119,7 @@ first_sector image sector n front body some first is =
     is ∙ ap (octets_at image sector) count ∙ octets_at-add image sector 1 (n - 1)
     ∙ ap (λ (octets : List ℕ). octets ++ octets_at image (sector + 1) (n - 1)) (sym first)
 
--- what was read: the first sector, and the sectors that it tells of
+-- what was read: the first sector, and the sectors that its head says
 pub record HaveRead (image : Image) (sector n most : ℕ) (front body : List ℕ) : Type 0 where
   pub some : 1 ≤ n
   pub within : n ≤ most

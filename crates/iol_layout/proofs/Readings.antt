@@ -15,13 +15,13 @@ use Rattle.iol_layout.proofs.Geometries.{geometry_in-is}
 use Rattle.iol_layout.proofs.Headers.{sound-named}
 use Rattle.iol_layout.proofs.Layouts.{size-of, in_use_in-same}
 
--- a disk of so many sectors is formatted for the geometry of a layout
+-- a disk of this number of sectors is formatted for the geometry of a layout
 pub record IsFormattedFor (sectors : ℕ) (image : Image) (layout : Layout) : Type 0 where
   pub geometry : Geometry
   pub found : geometry_in sectors image ≡ Ok geometry
   pub so : layout ≡ laid_out layout.version geometry
 
--- the header of an area in which a journal stands so
+-- the header of an area in which a journal has this standing
 abbrev pub header_for : Standing → ℕ → Header
 header_for s base = record { epoch = s.epoch; base = base; version = Some s.layout.version }
 

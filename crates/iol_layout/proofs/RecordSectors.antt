@@ -1,4 +1,4 @@
--- The sectors of records, pushed one behind the other.
+-- The sectors of records, pushed one after another.
 use Rattle.std.proofs.Common.{◌≡◌, ◌≤◌, ◌<◌, ℕ, zero, suc, ◌+◌, ◌-◌, ◌*◌, ◌/◌, nat_le, true, List, [], ◌∷◌, ◌++◌, length, map, take, drop}
 use Rattle.std.proofs.Common.{slice_get, Option, Some, None, Ok, refl, sym, ◌∙◌, ap, subst, arith, append_assoc, Bor}
 use Rattle.std.specs.List.{range_with_len}
@@ -23,7 +23,7 @@ use Rattle.iol_layout.specs.declared.area.Area.{Area}
 use Rattle.iol_layout.specs.declared.records.RecordSector.{RecordSector}
 use Rattle.iol_layout.proofs.AreaRecords.{ArePorts, ports-append, length-padded, records-row, records-read, length-records}
 
--- one sector more
+-- one more sector
 pub sector-pushed : (f : ℕ → Call) (old items : List RecordSector) (pushed : RecordSector) (j : ℕ) → map write_of items ≡ map write_of old
     ++ map f (range_with_len 0 j)
     → write_of pushed ≡ f j → map write_of (items ++ pushed ∷ []) ≡ map write_of old ++ map f (range_with_len 0 (j + 1))
@@ -34,7 +34,7 @@ sector-pushed f old items pushed j so_far is =
     ∙ ap (λ (call : Call). map write_of old ++ (map f (range_with_len 0 j) ++ call ∷ [])) is
     ∙ ap (λ (calls : List Call). map write_of old ++ calls) (sym (map-range_with_len_more f 0 j j (omega arith)))
 
--- the port in a place, and those behind it
+-- the port at a place, and those after it
 drop-port : (state : State) (place : ℕ) (port : Port) → slice_get state place ≡ Some port → drop place state ≡ port ∷ drop (suc place) state
 drop-port [] place port is = cc
 drop-port (first ∷ state) zero port is = ap (λ (front : Port). front ∷ state) (same is)
@@ -50,7 +50,7 @@ numbered state number place port at is =
     let before : number - 1 ≡ place = omega arith in
     rw (some, before) at is
 
--- a port is there under each number up to theirs
+-- there is a port under each number up to the number of ports
 pub is-there : (found : Option (Bor Port)) (state : State) (number place : ℕ) → number ≡ place + 1 → place < length state
     → option_copied found ≡ port_numbered state number → IsSome found
 is-there (Some port) state number place at below is = refl
@@ -64,7 +64,7 @@ is-there None state number place at below is =
     clash : (port : Port) → None ≡ Some port → ⊥
     clash port is = cc
 
--- one record more
+-- one more record
 pub record-pushed : (layout : Layout) (a : Area) (state : State) (place first : ℕ) (port : Port) (octets : List ℕ) (old new all : List Call)
     → slice_get state place ≡ Some port → first ≡ port_at layout a place → octets ≡ padded (port_octets layout.version port)
     → new ≡ old ++ map (λ j. write (first + j) (sector_of octets j)) (range_with_len 0 (length octets / SECTOR_OCTETS))
@@ -89,7 +89,7 @@ record-pushed layout a state place first port octets old new all there at spelle
     ∙ ap (λ (ports : State). old ++ port_writes layout a place ports) (sym (drop-port state place port there))
     ∙ so_far
 
--- and one port more that is one
+-- one more port that is in its ranges
 pub port-more : (version : Version) (state : State) (place : ℕ) (port : Port) → slice_get state place ≡ Some port
     → IsPortIn version port → ArePorts version (take place state)
     → ArePorts version (take (place + 1) state)
@@ -98,7 +98,7 @@ port-more version state place port there is are =
     ∙ ap (λ (p : Port). take place state ++ p ∷ []) (get_or_from_slice_get state place port port there) in
     subst (ArePorts version) (sym more) (ports-append version (take place state) (port ∷ []) are (is, tt))
 
--- a version that spells a state spells each port of it
+-- a version that can encode a state can encode each of its ports
 pub spelled-at : (version : Version) (state : State) (place : ℕ) (port : Port) → SpellsState version state
     → slice_get state place ≡ Some port → SpellsPort version port
 spelled-at version [] place port spells there = absurd cc
@@ -111,7 +111,7 @@ largest-port : (version : Version) → largest_port_record version ≤ 8349
 largest-port One = omega arith
 largest-port Two = omega arith
 
--- a padded record reaches seventeen sectors at most
+-- a padded record reaches at most 17 sectors
 pub record-short : (version : Version) (port : Port) (octets : List ℕ) → octets ≡ padded (port_octets version port) → IsPort port
     → length octets ≤ 8704
 record-short version port octets spelled is =

@@ -1,4 +1,4 @@
--- Writes to sectors one behind the other, and images that have what was written.
+-- Writes to rising sectors, and images that have what was written.
 use Rattle.std.proofs.Common.{◌≡◌, ◌≢◌, ◌≤◌, ◌<◌, ◌⊎◌, inl, inr, ℕ, zero, suc, ◌+◌, List, [], ◌∷◌, ◌++◌, length, map, take, slice_get, Some}
 use Rattle.std.proofs.Common.{refl, ◌∙◌, ap, subst, arith}
 use Rattle.std.specs.List.{range_with_len}
@@ -8,7 +8,7 @@ use Rattle.iol_disk.specs.Calls.{Call, write, sync, content_after_all}
 use Rattle.iol_disk.proofs.DiskLaws.{reads-wrote_here, reads-wrote_other}
 use Rattle.iol_layout.specs.AreaWrites.{IsRow, HasWrites}
 
--- ---- where a row lies
+-- ---- where a row is
 
 pub row-within : (low high : ℕ) (calls : List Call) → IsRow low high calls → low ≤ high
 row-within low high [] row = row
@@ -78,7 +78,7 @@ has-same low high (sync ∷ calls) old new row same has = absurd row
 
 -- ---- a row that is written
 
--- all of it is there, and nothing else has changed
+-- all writes are in the image, and nothing else has changed
 pub record IsWritten (low high : ℕ) (calls : List Call) (old new : Image) : Type 0 where
   pub written : HasWrites calls new
   pub others : (i : ℕ) → (i < low) ⊎ (high ≤ i) → new i ≡ old i
@@ -103,9 +103,9 @@ row-written low high (write sector octets ∷ calls) c row =
     away i within (inr behind) = omega (arith, behind, within)
 row-written low high (sync ∷ calls) c row = absurd row
 
--- ---- one write more of a row
+-- ---- one more write of a row
 
--- the write in this place: with it an image has one more of them
+-- the write at this place, with which an image has one more of the writes
 pub record IsNth (low high : ℕ) (calls : List Call) (i : ℕ) : Type 0 where
   pub sector : ℕ
   pub octets : List ℕ

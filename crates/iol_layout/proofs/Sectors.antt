@@ -1,4 +1,4 @@
--- Images that differ in a few sectors, and what is read of the others.
+-- Images that differ in a few sectors, and what is read from the others.
 use Rattle.std.proofs.Common.{◌≡◌, ◌≤◌, ◌<◌, ℕ, zero, suc, ◌+◌, List, ◌++◌, refl, sym, ◌∙◌, ap, arith, append_assoc, add-zero, zero-add}
 use Rattle.iol_disk.specs.Content.{Image}
 use Rattle.iol_layout.specs.Layout.{Layout, port_at}

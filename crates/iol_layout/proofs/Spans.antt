@@ -1,4 +1,4 @@
--- Batches over several slots: where their sectors lie, and what is read of them.
+-- Batches over several slots: where their sectors are, and what is read of them.
 use Rattle.std.proofs.Common.{◌≡◌, ◌≢◌, ◌≤◌, ◌<◌, ℕ, ◌+◌, ◌*◌, nat_le, Bool, true, false, List, Option, Some, None, if◌then◌else◌}
 use Rattle.std.proofs.Common.{refl, sym, ◌∙◌, ap, arith}
 use Rattle.std.proofs.lemmas.Bool.Decides.{nat_tests}
@@ -17,11 +17,11 @@ use Rattle.iol_layout.proofs.Sectors.{octets_at-same}
 
 -- ---- places
 
--- a sector of a body lies behind the gate of its first slot
+-- a sector of a body is after the gate of its first slot
 pub body_at-behind : (layout : Layout) (a : Area) (k j : ℕ) → slot_at layout a k < body_at layout a k j
 body_at-behind layout a k j = omega arith
 
--- and before the slot behind its last one
+-- and before the slot after its last one
 pub body_at-within : (layout : Layout) (a : Area) (k n j : ℕ) → j < BODY_SECTORS * n → body_at layout a k j < slot_at layout a (k + n)
 body_at-within layout a k n j below = omega (arith, below)
 
@@ -29,15 +29,15 @@ body_at-within layout a k n j below = omega (arith, below)
 pub body_at-rises : (layout : Layout) (a : Area) (k i j : ℕ) → i < j → body_at layout a k i < body_at layout a k j
 body_at-rises layout a k i j below = omega (arith, below)
 
--- none is a gate
+-- no place of a body is a gate
 pub body_at-no_gate : (layout : Layout) (a : Area) (k l j : ℕ) → slot_at layout a l ≢ body_at layout a k j
 body_at-no_gate layout a k l j = omega arith
 
--- a batch takes a slot
+-- a batch takes at least one slot
 pub slots_of-some : (octets : ℕ) → 1 ≤ slots_of octets
 slots_of-some octets = omega arith
 
--- the slots of an area lie within the sectors of the journal
+-- the slots of an area are within the sectors of the journal
 pub slots-inside : (layout : Layout) (a : Area) (k : ℕ) → k ≤ layout.slots → slot_at layout a k ≤ total layout
 slots-inside layout A k below = omega (arith, below)
 slots-inside layout B k below = omega (arith, below)
@@ -65,7 +65,7 @@ pub span_in-same : (layout : Layout) (a : Area) (old new : Image) (k : ℕ) → 
     → span_in layout a new k ≡ span_in layout a old k
 span_in-same layout a old new k same = ap (λ (octets : List ℕ). slots_of (head_of octets).octets) same
 
--- a batch that is there, ends within the slots
+-- a batch that is read ends within the slots
 pub batch_in-within : (layout : Layout) (a : Area) (epoch : ℕ) (image : Image) (k most first : ℕ) (commands : List CommandValue)
     → batch_in layout a epoch image k most first ≡ Some commands
     → (span_in layout a image k ≤ most) × (batch_of layout.version epoch first (body_in layout a image k (span_in layout a image k))
@@ -81,7 +81,7 @@ batch_in-within layout a epoch image k most first commands is = tested (nat_le (
     tested true at is = (grind (arith, nat_tests), is)
     tested false at is = absurd cc
 
--- a batch whose slots are there
+-- a batch whose slots exist
 pub batch_in-there : (layout : Layout) (a : Area) (epoch : ℕ) (image : Image) (k n most first : ℕ) (answer : Option (List CommandValue))
     → span_in layout a image k ≡ n → n ≤ most → batch_of layout.version epoch first (body_in layout a image k n) ≡ answer
     → batch_in layout a epoch image k most first ≡ answer
@@ -89,7 +89,7 @@ batch_in-there layout a epoch image k n most first answer span within is =
     let test : nat_le n most ≡ true = grind (arith, nat_tests) in
     rw (span, test) is
 
--- one whose slots are not there
+-- a batch whose slots do not exist
 pub batch_in-past : (layout : Layout) (a : Area) (epoch : ℕ) (image : Image) (k n most first : ℕ)
     → span_in layout a image k ≡ n → most < n → batch_in layout a epoch image k most first ≡ None
 batch_in-past layout a epoch image k n most first span past =

@@ -15,14 +15,14 @@ use Rattle.iol_layout.specs.declared.records.RecordSector.{RecordSector}
 abbrev pub write_of : RecordSector → Call
 write_of record_sector = write record_sector.sector record_sector.octets
 
--- the records of a state lie one behind the other among an area's ports, and whatever else an image holds, they are read
--- as that state (own)
+-- the records of a state are in rising sectors among those for an area's ports, and are read as that state, whatever else
+-- an image holds (own)
 pub record AreRecords (layout : Layout) (a : Area) (state : State) : Type 0 where
   pub row : IsRow (port_at layout a 0) (slot_at layout a 0) (port_writes layout a 0 state)
   pub read_back : (image : Image) → HasWrites (port_writes layout a 0 state) image → ports_from layout a image 0 layout.ports ≡ Ok state
   pub at_most : length (port_writes layout a 0 state) ≤ layout.port_sectors * layout.ports
 
--- a plan has the header, and the records of the state, for this area (own)
+-- a plan for this area has this header and the records of this state (own)
 pub record IsAreaPlan (layout : Layout) (a : Area) (header : Header) (state : State) (plan : AreaPlan) : Type 0 where
   pub layout_is : plan.layout ≡ layout
   pub area_is : plan.area ≡ a

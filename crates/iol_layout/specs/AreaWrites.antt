@@ -27,20 +27,20 @@ header_write layout a epoch base = write (header_at layout a) (header_octets lay
 abbrev pub record_writes : ℕ → List ℕ → List Call
 record_writes first octets = map (λ j. write (first + j) (sector_of (padded octets) j)) (range_with_len 0 (sectors_reached (length octets)))
 
--- the writes of the records of ports, the first of which stands in place p; places are counted from 0 (format, Orders
+-- the writes of the records of ports, the first of which is in place p; places are counted from 0 (format, Orders
 -- of disk calls)
 abbrev pub port_writes : Layout → Area → ℕ → State → List Call
 port_writes layout a p [] = []
 port_writes layout a p (port ∷ ports) = record_writes (port_at layout a p) (port_octets layout.version port)
     ++ port_writes layout a (p + 1) ports
 
--- writes to sectors one behind the other, from this sector on and below that one (own)
+-- writes to rising sectors, all from `low` on and below `high` (own)
 abbrev pub IsRow : ℕ → ℕ → List Call → Type 0
 IsRow low high [] = low ≤ high
 IsRow low high (write sector octets ∷ calls) = (low ≤ sector) × IsRow (sector + 1) high calls
 IsRow low high (sync ∷ calls) = ⊥
 
--- an image has what these calls write (own)
+-- an image has all that these calls write (own)
 abbrev pub HasWrites : List Call → Image → Type 0
 HasWrites [] image = Unit {0}
 HasWrites (write sector octets ∷ calls) image = (image sector ≡ octets) × HasWrites calls image

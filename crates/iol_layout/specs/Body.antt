@@ -25,51 +25,51 @@ head_of body = record {
   octets = number_at w32 18 body;
 }
 
--- a head may be that of a batch under this epoch whose first command has this number (format, Slots)
+-- whether a head may belong to a batch under this epoch whose first command has this number (format, Slots)
 abbrev pub fits : Head → ℕ → ℕ → Bool
 fits head epoch first =
     (head.epoch == epoch) && (head.first == first) && nat_le 1 head.count && nat_le head.count MOST_COMMANDS
     && nat_le (first + head.count) (LAST_NUMBER + 1)
 
--- how many slots a batch takes whose records have so many octets (format, Slots)
+-- the number of slots of a batch whose records have this number of octets (format, Slots)
 abbrev pub slots_of : ℕ → ℕ
 slots_of octets = (BODY_HEAD_OCTETS + octets + (BODY_OCTETS - 1)) / BODY_OCTETS
 
--- a command in front of others, if they are there (own)
+-- a command before the others, if there are others to read (own)
 abbrev pub prepended : CommandValue → Option (List CommandValue) → Option (List CommandValue)
 prepended command None = None
 prepended command (Some commands) = Some (command ∷ commands)
 
--- the command that was read, and those that the octets behind it give (own)
+-- the command that was read, and those read from the octets after it (own)
 abbrev pub first_then : Result (CommandValue × List ℕ) RecordFault → (List ℕ → Option (List CommandValue)) → Option (List CommandValue)
 first_then (Err fault) others = None
 first_then (Ok read) others = prepended read.0 (others read.1)
 
--- so many commands, whose records fill the octets exactly (format, Slots)
+-- this number of commands, if their records fill the octets exactly (format, Slots)
 abbrev pub commands_of : Version → ℕ → List ℕ → Option (List CommandValue)
 commands_of version zero [] = Some []
 commands_of version zero (octet ∷ octets) = None
 commands_of version (suc n) octets = first_then (command_at version octets) (λ rest. commands_of version n rest)
 
--- the commands of a slot's body, if it is a batch under this epoch whose first command has this number (format,
+-- the commands of a slot's body, if it has a batch under this epoch whose first command has this number (format,
 -- Slots)
 unfoldable pub batch_of : Version → ℕ → ℕ → List ℕ → Option (List CommandValue)
 batch_of version epoch first body =
     let head = head_of body in
     if fits head epoch first then commands_of version head.count (take head.octets (drop BODY_HEAD_OCTETS body)) else None
 
--- the records of commands as they are written, one behind the other (format, Slots)
+-- the records of commands as they are written, one after another (format, Slots)
 abbrev pub records_of : List CommandValue → List ℕ
 records_of commands = flat_map (command_octets newest) commands
 
--- commands of which a body can be made: one to 64, whose records fit the slots of an area and are read as they are (format, Slots)
+-- commands that can form a batch: 1 to 64, whose records fit the slots of an area and are read back unchanged (format, Slots)
 pub record IsBatch (commands : List CommandValue) : Type 0 where
   pub some : 1 ≤ length commands
   pub most : length commands ≤ MOST_COMMANDS
   pub short : length (records_of commands) < BODY_OCTETS * MOST_SLOTS
   pub read : commands_of newest (length commands) (records_of commands) ≡ Some commands
 
--- how many slots commands take (format, Slots)
+-- the number of slots that commands take (format, Slots)
 abbrev pub slots_for : List CommandValue → ℕ
 slots_for commands = slots_of (length (records_of commands))
 
@@ -82,7 +82,7 @@ head_octets epoch first count octets = to_be_bytes w64 epoch ++ to_be_bytes w64 
 unfoldable pub body_octets : ℕ → ℕ → List CommandValue → List ℕ
 body_octets epoch first commands = padded (head_octets epoch first (length commands) (length (records_of commands)) ++ records_of commands)
 
--- the octets of a body reach as far as the records that its head tells of (own)
+-- a body holds all octets of records that its head says (own)
 abbrev pub HoldsRecords : List ℕ → Type 0
 HoldsRecords body = BODY_HEAD_OCTETS + (head_of body).octets ≤ length body
 

@@ -1,4 +1,4 @@
--- The geometry and the body that examples speak of.
+-- The geometry, bodies and standings of the worked examples.
 use Rattle.std.specs.Prelude.{ℕ, List, [], ◌∷◌, ◌++◌, Some, replicate}
 use Rattle.iol_types.specs.State.{State, empty_state}
 use Rattle.iol_layout.specs.Geometry.{Geometry}
@@ -30,16 +30,16 @@ first_body_of_one =
     (0 ∷ 0 ∷ 0 ∷ 0 ∷ 0 ∷ 0 ∷ 0 ∷ 1 ∷ 0 ∷ 0 ∷ 0 ∷ 0 ∷ 0 ∷ 0 ∷ 0 ∷ 1 ∷ 0 ∷ 1 ∷ 0 ∷ 0 ∷ 0 ∷ 10 ∷ [])
     ++ (0x01 ∷ 0x01 ∷ 0x01 ∷ 0x03 ∷ 0x01 ∷ 0xF4 ∷ 0x00 ∷ 0x00 ∷ 0xAB ∷ 0xCD ∷ []) ++ replicate 480 0
 
--- for worked examples: how a journal of 2 ports and 4 slots stands that was just formatted (own)
+-- for worked examples: the standing of a journal of 2 ports and 4 slots that was just formatted (own)
 abbrev pub first_standing : State → Standing
 first_standing state = record { layout = layout_of two_by_four; area = A; epoch = 1; used = 0; number = 0; state = state }
 
--- a journal of them with so many slots used and commands so far, whose ports were never configured (own)
+-- for worked examples: that of such a journal after a number of slots and commands, its ports never configured (own)
 abbrev pub standing_of : ℕ → ℕ → Standing
 standing_of used number =
     record { layout = layout_of two_by_four; area = A; epoch = 1; used = used; number = number; state = empty_state 2 }
 
--- such a journal in version 1 (own)
+-- for worked examples: that of such a journal in version 1 (own)
 abbrev pub older_standing_of : ℕ → ℕ → Standing
 older_standing_of used number =
     record { layout = laid_out One two_by_four; area = A; epoch = 1; used = used; number = number; state = empty_state 2 }

@@ -1,4 +1,4 @@
--- Images on which a journal stands so that it can go on.
+-- Images on which there is a journal that can continue.
 use Rattle.std.specs.Prelude.{◌≡◌, ◌≤◌, ◌<◌, ◌⊎◌, ℕ, ◌+◌, false, IsTrue, List, length, Ok}
 use Rattle.iol_types.specs.Command.{CommandValue}
 use Rattle.iol_types.specs.State.{State, after}
@@ -11,18 +11,18 @@ use Rattle.iol_layout.specs.Meaning.{Standing, standing_in, meaning}
 use Rattle.iol_layout.specs.declared.idle.Idle.{Idle}
 use Rattle.iol_layout.specs.declared.idle.Idle.TheVariants.{Older, Closed}
 
--- how the area that is not in use is harmless: its header is older, or its gate is closed (own)
+-- why the area that is not in use is harmless: its header is older, or its gate is closed (own)
 abbrev pub IsIdle : Standing → Idle → Image → Type 0
 IsIdle s Older image = (header_of (image (header_at s.layout (other s.area)))).epoch < s.epoch
 IsIdle s Closed image = is_open (image (gate_at s.layout (other s.area))) ≡ false
 
--- a journal stands so on the image, all gates behind its used slots are closed, and the other area is harmless (own)
+-- a journal has this standing on the image, all gates after its used slots are closed, and the other area is harmless (own)
 pub record IsKeptAs (sectors : ℕ) (s : Standing) (idle : Idle) (image : Image) : Type 0 where
   pub stands : standing_in sectors image ≡ Ok s
   pub rest : (k : ℕ) → s.used ≤ k → k < s.layout.slots → is_open (image (slot_at s.layout s.area k)) ≡ false
   pub other_area : IsIdle s idle image
 
--- an image is kept: a journal stands on it so that it can go on (own)
+-- an image is kept: there is a journal on it that can continue (own)
 unfoldable pub IsKept : ℕ → Image → Type 0
 IsKept sectors image = (s : Standing) × (idle : Idle) × IsKeptAs sectors s idle image
 

@@ -1,4 +1,4 @@
--- How a journal stands: where it writes next, how many commands it has, and the state after them.
+-- The standing of a journal: where it writes next, the number of its commands, and the state after them.
 use Rattle.std.specs.Prelude.{◌≡◌, ◌≤◌, ◌<◌, ℕ, ◌+◌, ◌-◌, if◌then◌else◌, List, length}
 use Rattle.iol_types.specs.Command.{CommandValue}
 use Rattle.iol_types.specs.State.{State, after}
@@ -10,7 +10,7 @@ use Rattle.iol_layout.specs.declared.place.Place.{Place}
 use Rattle.iol_layout.specs.declared.header.TheConstants.{LAST_NUMBER}
 use Rattle.iol_layout.specs.Body.{slots_for}
 
--- how a journal stands that writes here next, after so many commands (own)
+-- the standing of a journal that writes here next, after this number of commands (own)
 abbrev pub standing_at : Place → ℕ → State → Standing
 standing_at place number state = record {
   layout = place.layout;
@@ -21,7 +21,7 @@ standing_at place number state = record {
   state = state;
 }
 
--- how a journal stands after a batch: its slots are used, more commands, the state after them (own)
+-- the standing after a batch: more slots used, more commands, and the state after them (own)
 abbrev pub with_batch : Standing → List CommandValue → Standing
 with_batch s commands = record {
   layout = s.layout;
@@ -32,18 +32,18 @@ with_batch s commands = record {
   state = after s.state commands;
 }
 
--- the slots that a batch may take: those that are not used, where the layout is the one that is written; in an older one
--- nothing is written (format, Slots)
+-- the number of slots that a batch may take: the unused ones, if the layout is in the version that is written; 0 in an older
+-- one, in which nothing is written (format, Slots)
 abbrev pub free_slots : Standing → ℕ
 free_slots s = if is_renewed s.layout then s.layout.slots - s.used else 0
 
--- What holds of a journal at rest, on any disk (own)
+-- what holds for a journal at rest, on any disk (own)
 pub record IsResting (d : Disk) (s : Standing) : Type 0 where
   pub laid_out : IsLayout s.layout
   pub fits : total s.layout ≤ d.sectors
   pub within : s.used ≤ s.layout.slots
   pub bound : s.number ≤ LAST_NUMBER
-  -- each epoch but the first, and one of version 2, has begun after a command, and there is one in the used slots
+  -- each epoch except the first, and one more of version 2, began after a command; used slots hold a command too
   pub begun : s.epoch ≤ s.number + epochs_ahead s.layout.version
   pub in_use : 0 < s.used → s.epoch < s.number + epochs_ahead s.layout.version
   pub count : length s.state ≡ s.layout.ports

@@ -12,7 +12,7 @@ pub enum Area {
 impl Area {
     ghost use Rattle.iol_layout.specs.Layout.{other};
 
-    /// The area that this one is not.
+    /// Returns the other area.
     pub fn other(self) -> Area
         ensures { result ≡ other self }
     {

@@ -1,4 +1,4 @@
-//! What an area holds once it is written: closed slots, a header, and the records of a state.
+//! What is written into an area: closed slots, a header, and the records of a state.
 
 ghost use Rattle.std.specs.Prelude.{◌≡◌, ◌≤◌, ◌<◌, [], ◌∷◌, length, map, IfOk, OnOk};
 ghost use Rattle.iol_record.specs.Record.{SpellsState};
@@ -15,7 +15,8 @@ use iol_disk::{DiskFault, SectorDisk};
 use iol_types::MasterState;
 use std::alloc::{AllocError, Global};
 
-/// What is to be written into an area, but for its gate: a formatted disk's first area, or the other area at a checkpoint.
+/// What is to be written into an area, except its gate: the first area when a disk is formatted, or the other area at a
+/// checkpoint.
 #[derive(Drop)]
 pub struct AreaPlan {
     pub layout: Layout,
@@ -25,10 +26,10 @@ pub struct AreaPlan {
 }
 
 impl AreaPlan {
-    /// The plan of an area that begins with this header and state.
+    /// Makes the plan of an area with this header and state.
     ///
     /// # Errors
-    /// Out of memory.
+    /// Fails if out of memory.
     pub fn of(
         alloc: Global,
         layout: Layout,
@@ -37,7 +38,7 @@ impl AreaPlan {
         state: &MasterState,
     ) -> Result<AreaPlan, AllocError>
         requires count { length state.now ≡ layout.ports }
-        // Version 1 has no labels.
+        // Version 1 cannot encode labels.
         requires spelled { SpellsState layout.version state.now }
         ensures plan { IfOk result (IsAreaPlan layout area header state.now) }
         ensures records { OnOk result (AreRecords layout area state.now) }
@@ -54,7 +55,7 @@ impl AreaPlan {
     /// Closes the gate of a slot; slots are counted from 0.
     ///
     /// # Errors
-    /// `Write` where the disk fails.
+    /// `Write` if the disk fails.
     pub fn close_slot<D: SectorDisk>(&self, disk: &mut D, slot: usize) -> Result<(), DiskFault>
         requires fits { total self.now.layout ≤ (D.disk disk.old).sectors }
         requires there { slot < self.now.layout.slots }
@@ -66,7 +67,7 @@ impl AreaPlan {
     /// Writes the header.
     ///
     /// # Errors
-    /// `Write` where the disk fails.
+    /// `Write` if the disk fails.
     pub fn write_header<D: SectorDisk>(&self, disk: &mut D) -> Result<(), DiskFault>
         requires { total self.now.layout ≤ (D.disk disk.old).sectors }
         ensures { Makes (header_write self.now.layout self.now.area self.now.header.epoch self.now.header.base ∷ []) (D.disk disk.old)
@@ -76,10 +77,10 @@ impl AreaPlan {
         disk.write(self.layout.header(self.area), &octets)
     }
 
-    /// Closes the gates of all slots, one after the other.
+    /// Closes the gates of all slots, one after another.
     ///
     /// # Errors
-    /// `Write` where the disk fails, at the first that does.
+    /// `Write` at the first write that fails.
     pub fn close_slots<D: SectorDisk>(&self, disk: &mut D) -> Result<(), DiskFault>
         requires { total self.now.layout ≤ (D.disk disk.old).sectors }
         ensures { Makes (slot_writes self.now.layout self.now.area) (D.disk disk.old) (D.disk disk.new) result }
@@ -93,7 +94,7 @@ impl AreaPlan {
     /// Writes the records, sector by sector.
     ///
     /// # Errors
-    /// `Write` where the disk fails, at the first that does.
+    /// `Write` at the first write that fails.
     pub fn write_records<D: SectorDisk>(&self, disk: &mut D) -> Result<(), DiskFault>
         requires { IsRow 0 (D.disk disk.old).sectors (map write_of self.now.records.items) }
         ensures { Makes (map write_of self.now.records.items) (D.disk disk.old) (D.disk disk.new) result }

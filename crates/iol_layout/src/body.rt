@@ -17,15 +17,15 @@ use std::alloc::{AllocError, Global};
 pub const MOST_COMMANDS: usize = 64;
 /// The octets of a slot's body before the records: epoch 8, number of the first command 8, count 2, octets of the records 4.
 pub const BODY_HEAD_OCTETS: usize = 22;
-/// The octets of a slot's body.
+/// The number of octets in a slot's body.
 pub const BODY_OCTETS: usize = 8192;
-/// The most octets of records that a batch of one slot has: what a slot's body holds behind its head.
+/// The most octets of records in a batch of one slot: what a slot's body holds after its head.
 pub const MOST_RECORD_OCTETS: usize = 8170;
 
-/// The octets of an epoch, at the front of a body.
+/// The number of octets of an epoch, at the beginning of a body.
 pub const EPOCH_OCTETS: usize = 8;
 
-/// A batch as it is written: the octets of its body, and how many slots and sectors they take.
+/// A batch as it is written: the octets of its body, and the number of slots and sectors that they take.
 #[derive(Debug, Drop)]
 pub struct EncodedBatch {
     pub octets: Vec<u8>,
@@ -33,22 +33,22 @@ pub struct EncodedBatch {
     pub sectors: usize,
 }
 
-/// What stands before the records in a slot's body (docs/FORMATS.md, "Slots").
+/// What precedes the records in a slot's body (docs/FORMATS.md, "Slots").
 #[derive(Clone, Copy)]
 pub struct Head {
     pub epoch: u64,
     /// The number of the first command.
     pub first: u64,
-    /// How many commands there are.
+    /// The number of commands.
     pub count: u16,
-    /// The octets of their records.
+    /// The number of octets of their records.
     pub octets: u32,
 }
 
 impl Head {
     ghost use Rattle.iol_layout.specs.Body.{head_of, fits, slots_of};
 
-    /// The head at the front of a body.
+    /// Reads the head at the beginning of a body.
     #[tactic(auto, unfolding(crate::specs::Body::head_of))]
     pub fn read(body: &[u8]) -> Head
         requires { BODY_HEAD_OCTETS ≤ length body.now }
@@ -62,7 +62,7 @@ impl Head {
         }
     }
 
-    /// Whether a batch under this epoch, the first command of which has this number, may have the head.
+    /// Returns whether the head may belong to a batch under this epoch whose first command has this number.
     pub fn fits(self, epoch: u64, first: u64) -> bool
         requires { first ≤ LAST_NUMBER + 1 }
         ensures { result ≡ fits self epoch first }
@@ -74,14 +74,15 @@ impl Head {
             && first + u64::from(self.count) <= LAST_NUMBER + 1
     }
 
-    /// How many sectors of the body it and its records take, as it says: 1 or more, and at most 16 for each slot of its batch.
+    /// The number of body sectors that the head and its records take, as the head says: 1 or more, and at most 16 for each
+    /// slot of its batch.
     pub fn sectors(self) -> usize
         ensures { result ≡ sectors_reached (BODY_HEAD_OCTETS + self.octets) }
     {
         (BODY_HEAD_OCTETS + self.octets as usize).div_ceil(SECTOR_OCTETS)
     }
 
-    /// How many slots its batch takes, as it says: 1 or more.
+    /// The number of slots that its batch takes, as the head says: 1 or more.
     pub fn slots(self) -> usize
         ensures { result ≡ slots_of self.octets }
     {
@@ -89,7 +90,7 @@ impl Head {
     }
 }
 
-/// How many slots a batch takes whose records have so many octets.
+/// The number of slots that a batch takes whose records have `octets` octets.
 pub fn slots_of(octets: usize) -> usize
     requires { octets < 2 ^ 40 }
     ensures { result ≡ slots_of octets }
@@ -97,7 +98,7 @@ pub fn slots_of(octets: usize) -> usize
     (BODY_HEAD_OCTETS + octets).div_ceil(BODY_OCTETS)
 }
 
-// The records of commands, one behind the other.
+// Encodes the records of commands, one after another.
 fn records(alloc: Global, commands: &[Command]) -> Result<Vec<u8>, AllocError>
     requires { length (records_of (values commands.now)) < 2 ^ 31 }
     ensures records { IfOk result (λ octets. octets.items ≡ records_of (values commands.now)) }
@@ -112,10 +113,10 @@ fn records(alloc: Global, commands: &[Command]) -> Result<Vec<u8>, AllocError>
 }
 
 impl EncodedBatch {
-    /// These commands, of which the first has this number, as they are written under an epoch.
+    /// Encodes these commands as a batch under an epoch; the first command has the number `first`.
     ///
     /// # Errors
-    /// Out of memory.
+    /// Fails if out of memory.
     pub fn of(
         alloc: Global,
         epoch: u64,
@@ -127,7 +128,7 @@ impl EncodedBatch {
         ensures octets { IfOk result (λ body. body.octets.items ≡ body_octets epoch first (values commands.now)) }
         ensures span { IfOk result (λ body. body.span ≡ slots_for (values commands.now)) }
         ensures sectors { IfOk result (λ body. body.sectors ≡ sectors_reached (length body.octets.items)) }
-        // The records are read as these commands.
+        // The records are read back as these commands.
         ensures read { OnOk result (commands_of newest (length (values commands.now)) (records_of (values commands.now))
             ≡ Some (values commands.now)) }
     {
@@ -145,7 +146,7 @@ impl EncodedBatch {
         })
     }
 
-    /// The same under another epoch: its octets 0 to 7.
+    /// Returns the same batch under another epoch, which is its octets 0 to 7.
     pub fn under(self, epoch: u64) -> EncodedBatch
         requires { EPOCH_OCTETS ≤ length self.octets.items }
         ensures octets { result.octets.items ≡ to_be_bytes w64 epoch ++ drop EPOCH_OCTETS self.octets.items }
@@ -166,7 +167,7 @@ impl EncodedBatch {
     }
 }
 
-// Writes an epoch over the one at the front of a body.
+// Overwrites the epoch at the beginning of a body.
 fn put_epoch(body: &mut [u8], epoch: u64)
     requires { EPOCH_OCTETS ≤ length body.old }
     ensures { body.new ≡ to_be_bytes w64 epoch ++ drop EPOCH_OCTETS body.old }
@@ -174,7 +175,7 @@ fn put_epoch(body: &mut [u8], epoch: u64)
     body[..EPOCH_OCTETS].copy_from_slice(&epoch.to_be_bytes());
 }
 
-// The head of a body.
+// Returns the octets of a head.
 fn head_octets(epoch: u64, first: u64, count: u16, octets: u32) -> [u8; BODY_HEAD_OCTETS]
     ensures { result ≡ head_octets epoch first count octets }
 {

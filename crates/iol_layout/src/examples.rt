@@ -1,5 +1,5 @@
-//! Facts with values of docs/FORMATS.md, worked out by the check: a number that is wrong in a definition and in the code
-//! alike is refused here.
+//! Facts with values of docs/FORMATS.md, computed by the prover: a number that is wrong both in a definition and in the
+//! code is refused here.
 
 ghost use Rattle.std.specs.Prelude.{◌≡◌, ◌++◌, ◌==◌, if◌then◌else◌, [], ◌∷◌, drop, length, replicate, map, take, true, false};
 ghost use Rattle.iol_types.specs.Command.{Configure};
@@ -21,7 +21,7 @@ ghost use Rattle.iol_layout.specs.declared.header.TheConstants.{LAST_NUMBER};
 use crate::area::Area;
 use crate::geometry::{DISK_GATE, GEOMETRY};
 
-/// A geometry has 1 to 32 ports and 1 to 256 slots, of which one is left in version 2.
+/// A geometry has 1 to 32 ports and 1 to 256 slots, and keeps at least one slot in version 2.
 pub fn geometries()
     ensures least { IsGeometry (record { ports = 1; slots = 2 }) }
     ensures least_of_32 { IsGeometry (record { ports = 32; slots = 17 }) }
@@ -34,7 +34,7 @@ pub fn geometries()
     ensures no_slot_of_32 { ¬ IsGeometry (record { ports = 32; slots = 16 }) }
 {}
 
-/// Where everything stands for 2 ports and 4 slots in version 1, on 178 sectors.
+/// The places of 2 ports and 4 slots in version 1, on 178 sectors.
 pub fn places()
     ensures sectors { total (laid_out One two_by_four) ≡ 178 }
     ensures geometry { GEOMETRY ≡ 0 }
@@ -44,13 +44,13 @@ pub fn places()
     ensures ports { map (port_at (laid_out One two_by_four) Area.A) (0 ∷ 1 ∷ []) ≡ 4 ∷ 13 ∷ [] }
     ensures slots { map (slot_at (laid_out One two_by_four) Area.A) (0 ∷ 1 ∷ 2 ∷ 3 ∷ []) ≡ 22 ∷ 39 ∷ 56 ∷ 73 ∷ [] }
     ensures bodies { map (body_at (laid_out One two_by_four) Area.A 0) (0 ∷ 15 ∷ []) ≡ 23 ∷ 38 ∷ [] }
-    // A body over the slots 1 to 3: it leaves out the gates of 2 and 3, the sectors 56 and 73.
+    // A body over the slots 1 to 3 leaves out the gates of slots 2 and 3, which are sectors 56 and 73.
     ensures longer { map (body_at (laid_out One two_by_four) Area.A 1) (0 ∷ 15 ∷ 16 ∷ 31 ∷ 32 ∷ []) ≡ 40 ∷ 55 ∷ 57 ∷ 72 ∷ 74 ∷ [] }
     ensures largest { total (laid_out One (record { ports = 32; slots = 256 })) ≡ 9286 }
 {}
 
-/// The same in version 2, whose port records have 17 sectors: the areas stand where they did, and an area gives up a slot for 2
-/// ports, and 16 for 32.
+/// The same in version 2, whose port records have 17 sectors: the areas are in the same places, and an area gives up a slot for
+/// 2 ports, and 16 for 32.
 pub fn places_of_two()
     ensures given_up { map (given_up Two) (1 ∷ 2 ∷ 3 ∷ 32 ∷ []) ≡ 1 ∷ 1 ∷ 2 ∷ 16 ∷ [] }
     ensures renewed { renewed (laid_out One two_by_four) ≡ layout_of two_by_four }
@@ -60,12 +60,12 @@ pub fn places_of_two()
     ensures slots { map (slot_at (layout_of two_by_four) Area.A) (0 ∷ 1 ∷ 2 ∷ []) ≡ 38 ∷ 55 ∷ 72 ∷ [] }
     ensures bodies { map (body_at (layout_of two_by_four) Area.A 1) (0 ∷ 15 ∷ 16 ∷ []) ≡ 56 ∷ 71 ∷ 73 ∷ [] }
     ensures kept { (layout_of (record { ports = 32; slots = 256 })).slots ≡ 240 }
-    // The largest record of a port, with two sets that count 4,096, reaches them all.
+    // The largest record of a port, with two sets that count 4,096, reaches all 17 sectors.
     ensures full_record { sectors_reached (length (port_octets Two full_port)) ≡ 17 }
     ensures largest { total (layout_of (record { ports = 32; slots = 256 })) ≡ 9286 }
 {}
 
-/// Sector 0 of 2 ports and 4 slots: IOLS, version 1, 2 ports, 4 slots, 16 sectors of a body.
+/// Sector 0 for 2 ports and 4 slots: IOLS, version 1, 2 ports, 4 slots, 16 sectors in a body.
 #[tactic(auto, unfolding(crate::specs::Geometry::geometry_of, crate::specs::Octets::padded))]
 pub fn sector_0()
     ensures written { geometry_octets two_by_four
@@ -106,7 +106,7 @@ pub fn headers()
     ensures unknown { is_sound (record { epoch = 1; base = 0; version = None }) ≡ false }
 {}
 
-/// The limits of batches: 64 commands, 8,170 octets of records in one slot behind a head of 22, numbers up to 2^62.
+/// The limits of batches: 64 commands, 8,170 octets of records in one slot after a head of 22, numbers up to 2^62.
 pub fn limits()
     ensures commands { MOST_COMMANDS ≡ 64 }
     ensures records { MOST_RECORD_OCTETS ≡ 8170 }
@@ -144,8 +144,8 @@ pub fn bodies_read()
     ensures a_command_more { commands_of Two 2 (drop 22 (take 33 first_body)) ≡ None }
 {}
 
-/// Why an image means nothing: there is no gate of the disk, the disk is smaller than its geometry, no area is open, both are
-/// open under one epoch, or the header in use is out of its bounds.
+/// Why an image means no state. The disk has no open gate, no geometry, or fewer sectors than its geometry needs, or an area keeps
+/// no slot in version 2. Or no area is open, both are open under one epoch, or the header in use is out of its bounds.
 #[tactic(auto, unfolding(crate::specs::Geometry::geometry_of, crate::specs::Octets::padded, iol_disk::specs::Gate::is_open, iol_disk::specs::Gate::open_gate, iol_disk::specs::Gate::closed_gate))]
 pub fn first_causes()
     ensures one_sector { geometry_in 1 (λ i. open_gate) ≡ Err unformatted }

@@ -1,4 +1,4 @@
-//! The ports and slots of a journal.
+//! The number of ports and slots of a journal.
 
 use crate::layout::{Layout, given_up};
 use crate::sector::sector_of;
@@ -6,23 +6,23 @@ use iol_disk::{BODY_SECTORS, SECTOR_OCTETS};
 use iol_record::Version;
 use std::marker::Model;
 
-// The most ports that a master has.
+// The most ports that a master can have.
 pub(crate) const MOST_PORTS: u16 = 32;
-/// The most slots that an area has.
+/// The most slots that an area can have.
 pub const MOST_SLOTS: u16 = 256;
-/// The sectors of a port's record.
+/// The sectors of a port's record in version 1.
 pub const PORT_SECTORS: usize = 9;
 /// The sectors of a port's record in version 2.
 pub const PORT_SECTORS_OF_TWO: usize = 17;
 
-/// The sector that says the geometry.
+/// The sector that holds the geometry.
 pub const GEOMETRY: usize = 0;
-/// The gate of the disk.
+/// The sector of the disk's gate.
 pub const DISK_GATE: usize = 1;
-// What the geometry's sector begins with: the letters IOLS, and the version of the layout.
+// The octets at the beginning of the geometry's sector: the letters IOLS, and 1, which is the version of the layout.
 pub(crate) const GEOMETRY_MARK: [u8; 5] = [0x49, 0x4F, 0x4C, 0x53, 0x01];
 
-/// The ports and slots of a journal, and with them where everything stands on its disk
+/// The number of ports and slots of a journal, which determines where everything is on its disk
 /// (docs/FORMATS.md, "Disk layout").
 #[derive(Clone, Copy)]
 pub struct Geometry {
@@ -47,8 +47,8 @@ impl Geometry {
     ghost use Rattle.iol_layout.specs.Geometry.{IsGeometry, geometry_octets};
     ghost use Rattle.iol_layout.specs.Layout.{layout_of, total};
 
-    /// The geometry of so many ports, 1 to 32, and of so many slots in each area, 1 to 256, of which one is left where larger records
-    /// take theirs: more than 8 for each 17 ports, rounded up.
+    /// Returns the geometry of `ports` ports, 1 to 32, and `slots` slots in each area, 1 to 256. Returns `None` if one is out of range
+    /// or no slot is left in version 2, whose larger records take 8 slots for each 17 ports, rounded up.
     pub fn new(ports: u16, slots: u16) -> Option<Geometry>
         ensures some { IfSome result (λ g. (g.ports ≡ ports) × (g.slots ≡ slots) × IsGeometry g) }
         ensures none { IfNone result (IsGeometry (record { ports = ports; slots = slots }) → ⊥) }
@@ -63,7 +63,7 @@ impl Geometry {
         Some(Geometry { ports, slots })
     }
 
-    /// The octets of its sector.
+    /// Returns the octets of the geometry's sector.
     pub fn octets(self) -> [u8; SECTOR_OCTETS]
         ensures { result ≡ geometry_octets self }
     {
@@ -75,7 +75,7 @@ impl Geometry {
         sector_of(&octets)
     }
 
-    /// How many ports there are.
+    /// The number of ports.
     pub fn ports(self) -> u8
         ensures value { result ≡ self.ports }
         ensures bound { result ≤ 32 }
@@ -83,14 +83,14 @@ impl Geometry {
         self.ports
     }
 
-    /// How many slots each area has.
+    /// The number of slots of each area.
     pub fn slots(self) -> usize
         ensures { result ≡ self.slots }
     {
         self.slots as usize
     }
 
-    /// How many sectors a disk needs.
+    /// The number of sectors that a disk needs.
     pub fn sectors(self) -> usize
         ensures within { IsGeometry self }
         ensures total { result ≡ total (layout_of self) }
@@ -100,7 +100,7 @@ impl Geometry {
         self.layout().sectors()
     }
 
-    /// Where everything stands on its disk.
+    /// Returns the layout of its disk.
     pub fn layout(self) -> Layout
         ensures { result ≡ layout_of self }
     {

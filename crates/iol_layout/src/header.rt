@@ -8,10 +8,10 @@ use crate::sector::sector_of;
 use iol_disk::SECTOR_OCTETS;
 use iol_record::Version;
 
-/// The greatest number of a command.
+/// The greatest number that a command can have.
 pub const LAST_NUMBER: u64 = 1 << 62;
 
-// The octets that name the versions of a layout.
+// The octets that name the versions of a layout, as a header has them.
 pub(crate) const NAME_OF_ONE: u8 = 0;
 
 pub(crate) const NAME_OF_TWO: u8 = 2;
@@ -19,15 +19,15 @@ pub(crate) const NAME_OF_TWO: u8 = 2;
 /// The header of an area (docs/FORMATS.md, "Headers").
 #[derive(Clone, Copy)]
 pub struct Header {
-    /// The open area with the greater epoch is in use. 0 where the area was never in use.
+    /// The epoch of the area; 0 if it was never in use. The open area with the greater epoch is in use.
     pub epoch: u64,
-    /// How many commands the area's port records already hold.
+    /// The number of commands that the area's port records already include.
     pub base: u64,
-    /// The version of the area's layout; none where its octet names no version.
+    /// The version of the area's layout; `None` if its octet names no version.
     pub version: Option<Version>,
 }
 
-// The octet that names a version.
+// Returns the octet that names a version.
 fn name_of(version: Version) -> u8
     ensures { result ≡ name_of version }
 {
@@ -37,7 +37,7 @@ fn name_of(version: Version) -> u8
     }
 }
 
-// The version that an octet names.
+// Returns the version that an octet names.
 fn version_named(octet: u8) -> Option<Version>
     ensures { result ≡ version_named octet }
 {
@@ -48,7 +48,7 @@ fn version_named(octet: u8) -> Option<Version>
     }
 }
 
-// How far an epoch may be ahead of the number of commands before it.
+// Returns how far an epoch may be ahead of the number of commands before it.
 fn epochs_ahead(version: Version) -> u64
     ensures count { result ≡ epochs_ahead version }
     ensures few { result ≤ 2 }
@@ -62,7 +62,7 @@ fn epochs_ahead(version: Version) -> u64
 impl Header {
     ghost use Rattle.iol_layout.specs.Header.{header_of, header_octets, is_sound, version_in};
 
-    /// The header in the octets of its sector.
+    /// Reads the header from the octets of its sector.
     #[tactic(auto, unfolding(crate::specs::Header::header_of))]
     pub fn read(octets: &[u8; SECTOR_OCTETS]) -> Header
         ensures { result ≡ header_of octets.now }
@@ -74,7 +74,7 @@ impl Header {
         }
     }
 
-    /// The octets of the sector of a header of a version.
+    /// Returns the octets of a header's sector in a version.
     pub fn octets(version: Version, epoch: u64, base: u64) -> [u8; SECTOR_OCTETS]
         ensures { result ≡ header_octets version epoch base }
     {
@@ -85,7 +85,7 @@ impl Header {
         sector_of(&octets)
     }
 
-    /// Whether the area may be in use with it.
+    /// Returns whether an area with this header may be in use.
     pub fn is_sound(self) -> bool
         ensures { result ≡ is_sound self }
     {
@@ -99,7 +99,7 @@ impl Header {
         }
     }
 
-    /// The version of the area's layout, where it may be in use.
+    /// Returns the version of the area's layout, or the newest one if the header names none.
     pub fn version_in_use(self) -> Version
         ensures { result ≡ version_in self }
     {

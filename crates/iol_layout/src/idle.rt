@@ -1,9 +1,9 @@
-//! How the area that is not in use is harmless.
+//! Why the area that is not in use is harmless.
 
-/// How the area that is not in use is harmless.
+/// Why the area that is not in use is harmless.
 #[derive(Clone, Copy)]
 pub enum Idle {
-    /// Its header is older.
+    /// Its header has an older epoch.
     Older,
     /// Its gate is closed.
     Closed,

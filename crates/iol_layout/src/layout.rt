@@ -1,4 +1,4 @@
-//! Where everything stands on a disk.
+//! Where everything is on a disk.
 
 ghost use Rattle.std.specs.Prelude.{◌≡◌, ◌≤◌};
 ghost use Rattle.iol_layout.specs.Geometry.{given_up};
@@ -12,14 +12,14 @@ use iol_disk::{BODY_SECTORS, SECTOR_OCTETS, Slot};
 use iol_record::Version;
 use std::marker::Model;
 
-/// Where everything stands on the disk of a geometry (docs/FORMATS.md, "Disk layout").
+/// Where everything is on the disk of a geometry (docs/FORMATS.md, "Disk layout").
 ///
-/// All places are asked of it, so that another layout of an area's sectors is another value of this type.
+/// All places are computed here, so that another layout of an area's sectors is another value of this type.
 #[derive(Clone, Copy)]
 pub struct Layout {
     version: Version,
     ports: u8,
-    // The slots that an area keeps in this version.
+    // The number of slots that an area keeps in this version.
     slots: u16,
 }
 
@@ -37,7 +37,7 @@ impl Model for Layout {
     ghost inverse = { λ l. record { version = l.version; ports = l.ports; slots = l.slots } };
 }
 
-// How many slots an area gives up for the larger records of so many ports.
+// The number of slots that an area gives up for the larger records of `ports` ports.
 pub(crate) fn given_up(version: Version, ports: u8) -> usize
     requires { ports ≤ 32 }
     ensures count { result ≡ given_up version ports }
@@ -62,7 +62,7 @@ impl Layout {
     ghost use Rattle.iol_layout.specs.Layout.{port_at};
     ghost use Rattle.iol_layout.specs.Layout.{slot_at, body_at};
 
-    /// The layout of a geometry in a version.
+    /// Returns the layout of a geometry in a version.
     pub fn of(version: Version, geometry: Geometry) -> Layout
         ensures { result ≡ laid_out version geometry }
     {
@@ -74,8 +74,8 @@ impl Layout {
         }
     }
 
-    /// The layout in version 1 of the numbers that sector 0 says, or `None` where it says none: what a disk of any version is
-    /// judged by first.
+    /// Reads the numbers in sector 0 and returns their layout in version 1, or `None` if it has none. A disk of any version is
+    /// checked against this layout first.
     #[tactic(auto, unfolding(crate::specs::Geometry::geometry_of))]
     pub fn read(octets: &[u8; SECTOR_OCTETS]) -> Option<Layout>
         ensures { result ≡ option_map (laid_out One) (geometry_of octets.now) }
@@ -99,7 +99,7 @@ impl Layout {
         }
     }
 
-    /// The geometry whose areas are laid out so, or `None` where an area keeps no slot in version 2.
+    /// Returns the geometry that has this layout, or `None` if an area would keep no slot in version 2.
     pub fn geometry(self) -> Option<Geometry>
         ensures some { IfSome result (λ geometry. geometry ≡ geometry_for self) }
         ensures none { IfNone result (IsGeometry (geometry_for self) → ⊥) }
@@ -108,7 +108,7 @@ impl Layout {
         Geometry::new(u16::from(self.ports), slots as u16)
     }
 
-    /// The layout of the same geometry in the version that is written.
+    /// Returns the layout of the same geometry in the version that is written.
     pub fn renewed(self) -> Layout
         requires { IsGeometry (geometry_for self) }
         ensures { result ≡ renewed self }
@@ -123,21 +123,21 @@ impl Layout {
         }
     }
 
-    /// Whether it is in the version that is written.
+    /// Returns whether the layout is in the version that is written.
     pub fn is_renewed(self) -> bool
         ensures { result ≡ is_renewed self }
     {
         self.version.is_newest()
     }
 
-    /// The version that its records are spelled in.
+    /// The version in which its records are encoded.
     pub fn version(self) -> Version
         ensures { result ≡ self.version }
     {
         self.version
     }
 
-    /// How many ports there are, 1 to 32.
+    /// The number of ports, 1 to 32.
     pub fn ports(self) -> u8
         ensures value { result ≡ self.ports }
         ensures bound { result ≤ 32 }
@@ -145,7 +145,7 @@ impl Layout {
         self.ports
     }
 
-    /// How many slots each area has, 1 to 256.
+    /// The number of slots of each area, 1 to 256.
     pub fn slots(self) -> usize
         ensures value { result ≡ self.slots }
         ensures some { 1 ≤ result }
@@ -154,12 +154,12 @@ impl Layout {
         usize::from(self.slots)
     }
 
-    /// How many sectors a port's record has.
+    /// The number of sectors of a port's record.
     pub fn port_sectors(self) -> usize
         ensures value { result ≡ self.port_sectors }
         ensures some { 1 ≤ result }
         ensures bound { result ≤ 17 }
-        // The largest record fits them.
+        // The largest record fits in these sectors.
         ensures room { largest_port_record self.version ≤ SECTOR_OCTETS * result }
     {
         match self.version {
@@ -168,7 +168,7 @@ impl Layout {
         }
     }
 
-    /// How many sectors a disk needs.
+    /// The number of sectors that a disk needs.
     pub fn sectors(self) -> usize
         ensures total { result ≡ total self }
         ensures bound { result < 10000 }
@@ -176,7 +176,7 @@ impl Layout {
         2 + 2 * self.area_sectors()
     }
 
-    // It is the same in each version.
+    // The number of sectors of an area, which is the same in each version.
     #[tactic(auto, using(crate::proofs::Layouts::area_size))]
     fn area_sectors(self) -> usize
         ensures sectors { result ≡ area_sectors self }
@@ -186,7 +186,7 @@ impl Layout {
         2 + PORT_SECTORS * usize::from(self.ports) + (1 + BODY_SECTORS) * slots
     }
 
-    /// The gate of an area, which is the area's first sector.
+    /// The sector of an area's gate, which is the area's first sector.
     pub fn gate(self, area: Area) -> usize
         ensures at { result ≡ gate_at self area }
         ensures bound { result < 10000 }
@@ -197,7 +197,7 @@ impl Layout {
         }
     }
 
-    /// The header of an area.
+    /// The sector of an area's header.
     pub fn header(self, area: Area) -> usize
         ensures at { result ≡ header_at self area }
         ensures bound { result < 10000 }
@@ -215,7 +215,7 @@ impl Layout {
         self.gate(area) + 2 + self.port_sectors() * port
     }
 
-    /// So many slots of an area, from this one on.
+    /// Returns `span` slots of an area, from `slot` on.
     pub fn slot(self, area: Area, slot: usize, span: usize) -> Slot
         requires { slot + span ≤ self.slots }
         ensures gate { result.gate ≡ slot_at self area slot }

@@ -1,13 +1,13 @@
-//! Where a journal stands on a disk, its octets there, and what an image of a disk means.
+//! The places of a journal on a disk, its octets there, and what an image of a disk means.
 //!
-//! A disk has two areas ([`Area`]); one is in use ([`InUse`]), and the other is harmless ([`Idle`]). [`Geometry`] is the
-//! ports and slots of a journal, and [`Layout`] has all places of its disk. [`Header`] is what an area begins with, [`Head`] what a
-//! slot's body begins with: both are read and written here, and so is a whole body ([`EncodedBatch`]). An [`AreaPlan`] is all that
-//! is written into an area but for its gate. [`Place`] is where a journal writes next. [`read_sector`], [`is_formatted`] and
-//! [`gate`] read one sector.
+//! A disk has two areas ([`Area`]); one is in use ([`InUse`]), and the other is harmless ([`Idle`]). [`Geometry`] is the number
+//! of ports and slots of a journal, and [`Layout`] has all places on its disk. An area has a [`Header`], and a slot's body begins
+//! with a [`Head`]: both are read and written here, and so is a whole body ([`EncodedBatch`]). An [`AreaPlan`] is all that is
+//! written into an area except its gate. [`Place`] is where a journal writes next. [`read_sector`] and [`is_formatted`] read one
+//! sector, and [`gate`] returns a gate to be read or written.
 //!
-//! What an image means is said in `specs/Meaning.antt`, and on which images a journal can go on in `specs/Kept.antt`. [`examples`]
-//! are facts with values of the layout.
+//! `specs/Meaning.antt` says what an image means, and `specs/Kept.antt` on which images a journal can continue. [`examples`] has
+//! facts with values of the layout.
 #![tactic(auto)]
 
 mod area;

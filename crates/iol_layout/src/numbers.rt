@@ -1,8 +1,8 @@
-//! Numbers in octets.
+//! Reads numbers from octets.
 
 ghost use Rattle.std.specs.Prelude.{◌≡◌, ◌+◌, ◌≤◌, length, take, drop};
 
-// So many octets at a place: those of a number.
+// Returns the `N` octets of a number at `place`.
 pub(crate) fn array_at<const N: usize>(octets: &[u8], place: usize) -> [u8; N]
     requires { place + N ≤ length octets.now }
     ensures { result ≡ take N (drop place octets.now) }

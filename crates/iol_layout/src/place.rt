@@ -21,7 +21,7 @@ impl Place {
     ghost use Rattle.iol_layout.specs.Layout.{geometry_for, is_renewed, renewed, slot_at, body_at};
     ghost use Rattle.iol_disk.specs.declared.slot.TheConstants.{BODY_SECTORS};
 
-    /// How many slots the area has, 1 to 256.
+    /// The number of slots of the area, 1 to 256.
     pub fn slots(&self) -> usize
         ensures value { result ≡ self.now.layout.slots }
         ensures bound { result ≤ 256 }
@@ -29,7 +29,7 @@ impl Place {
         self.layout.slots()
     }
 
-    /// The layout of the same geometry that is written.
+    /// Returns the layout of the same geometry in the version that is written.
     pub fn renewed_layout(&self) -> Layout
         requires { IsGeometry (geometry_for self.now.layout) }
         ensures { result ≡ renewed self.now.layout }
@@ -37,7 +37,7 @@ impl Place {
         self.layout.renewed()
     }
 
-    /// How many slots a batch may take: those that are not used, and none where the layout is an older one.
+    /// The number of slots that a batch may take: the unused ones, or none if the layout is an older one.
     pub fn free_slots(&self) -> usize
         requires { self.now.used ≤ self.now.layout.slots }
         ensures free { result ≡ (if is_renewed self.now.layout then self.now.layout.slots - self.now.used else 0) }
@@ -50,7 +50,7 @@ impl Place {
         }
     }
 
-    /// How many sectors a port's record has.
+    /// The number of sectors of a port's record.
     pub fn port_sectors(&self) -> usize
         ensures value { result ≡ self.now.layout.port_sectors }
         ensures bound { result ≤ 17 }
@@ -58,7 +58,7 @@ impl Place {
         self.layout.port_sectors()
     }
 
-    /// So many slots, from the first one that is not used on.
+    /// Returns `span` slots, from the first unused one on.
     pub fn slot(&self, span: usize) -> Slot
         requires { self.now.used + span ≤ self.now.layout.slots }
         ensures gate { result.gate ≡ slot_at self.now.layout self.now.area self.now.used }

@@ -10,10 +10,10 @@ ghost use Rattle.iol_disk.specs.Gate.{is_open};
 use crate::geometry::DISK_GATE;
 use iol_disk::{DiskFault, SECTOR_OCTETS, SectorDisk, Slot};
 
-/// The octets of a sector.
+/// Reads a sector and returns its octets.
 ///
 /// # Errors
-/// `Read` where the disk fails.
+/// `Read` if the disk fails.
 pub fn read_sector<D: SectorDisk>(
     disk: &mut D,
     sector: usize,
@@ -28,7 +28,7 @@ pub fn read_sector<D: SectorDisk>(
     Ok(octets)
 }
 
-/// A gate as a slot with no body.
+/// Returns a gate as a slot with no body.
 pub fn gate(sector: usize) -> Slot
     requires { sector < 1000000 }
     ensures { result.gate ≡ sector }
@@ -41,10 +41,10 @@ pub fn gate(sector: usize) -> Slot
     }
 }
 
-/// Whether the gate of the disk is there, and open.
+/// Returns whether the disk has a gate, and it is open.
 ///
 /// # Errors
-/// `Read` where the disk fails.
+/// `Read` if the disk fails.
 pub fn is_formatted<D: SectorDisk>(disk: &mut D) -> Result<bool, DiskFault>
     ensures read { IfOk result (λ answer. Shows (D.disk disk.old) (λ image. answer ≡ is_formatted (D.disk disk.old).sectors image)) }
     ensures there { IfOk result (λ answer. answer ≡ true → DISK_GATE < (D.disk disk.old).sectors) }

@@ -16,7 +16,7 @@ use iol_record::{Version, encode_port};
 use iol_types::{MasterState, PortId, PortState};
 use std::alloc::{AllocError, Global};
 
-/// A sector of a port's record, and where it stands.
+/// A sector of a port's record, and its number on the disk.
 #[derive(Drop)]
 pub struct RecordSector {
     pub sector: usize,
@@ -24,10 +24,10 @@ pub struct RecordSector {
 }
 
 impl RecordSector {
-    /// Writes it.
+    /// Writes the sector.
     ///
     /// # Errors
-    /// `Write` where the disk fails.
+    /// `Write` if the disk fails.
     pub fn write<D: SectorDisk>(&self, disk: &mut D) -> Result<(), DiskFault>
         requires { self.now.sector < (D.disk disk.old).sectors }
         ensures { Makes (write_of self.now ∷ []) (D.disk disk.old) (D.disk disk.new) result }
@@ -36,7 +36,7 @@ impl RecordSector {
     }
 }
 
-// The record of a port in whole sectors.
+// Encodes the record of a port, with zeros up to whole sectors.
 fn padded_record(alloc: Global, version: Version, port: &PortState) -> Result<Vec<u8>, AllocError>
     requires { SpellsPort version port.now }
     ensures octets { IfOk result (λ octets. octets.items ≡ padded (port_octets version port.now)) }
@@ -48,7 +48,7 @@ fn padded_record(alloc: Global, version: Version, port: &PortState) -> Result<Ve
     Ok(octets)
 }
 
-// Puts a record behind others, sector by sector from this one on.
+// Appends a record sector by sector; its first sector on the disk is `first`.
 fn push_record(
     records: &mut Vec<RecordSector>,
     first: usize,
@@ -71,7 +71,7 @@ fn push_record(
     Ok(())
 }
 
-// The sectors of the records of a state, port by port.
+// Returns the sectors of the records of a state, port by port.
 pub(crate) fn record_sectors(
     alloc: Global,
     layout: Layout,

@@ -4,7 +4,7 @@ ghost use Rattle.iol_layout.specs.Octets.{padded};
 
 use iol_disk::SECTOR_OCTETS;
 
-// A sector of these octets, and zeros behind them.
+// Returns a sector of these octets, with zeros after them.
 pub(crate) fn sector_of(octets: &[u8]) -> [u8; SECTOR_OCTETS]
     requires some { 0 < length octets.now }
     requires most { length octets.now ≤ SECTOR_OCTETS }

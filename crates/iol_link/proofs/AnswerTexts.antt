@@ -22,7 +22,7 @@ use Rattle.iol_link.specs.declared.service.Service.TheVariants as service
 use Rattle.iol_link.specs.declared.faults.IsduFault.{IsduFault}
 use Rattle.iol_link.specs.declared.faults.IsduFault.TheVariants as fault
 
--- the answer that an ISDU of a response carries
+-- the answer that is carried by an ISDU of a response
 with_found : (access : Access) (sign : Sign) (octets carried : List ℕ)
     → IsIsduOf octets (service.Response access sign) carried
     → carries (service.Response access sign) (length carried) ≡ true
@@ -45,7 +45,7 @@ by_found (service.Response access sign) octets a h ok =
     let f = served_found (answer_with access sign) _ octets a h ok in
     subst (IsAnswer octets) f.is (with_found access sign octets f.carried f.isdu f.fits)
 
--- what is read is the answer of these octets
+-- the result of reading is the answer of these octets
 pub answer_found : (octets : List ℕ) (a : Answer) → answer_of octets ≡ Ok a → IsAnswer octets a
 unfolding answer_of
 answer_found octets a ok = by_busy (slice_index octets 0 == 1) (length octets == 1) refl refl ok

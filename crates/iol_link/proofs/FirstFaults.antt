@@ -1,4 +1,4 @@
--- What reading refuses is the first fault.
+-- If reading fails, it reports the first fault.
 use Rattle.std.proofs.Common.{◌≡◌, ℕ, ◌-◌, Bool, true, false, cond, ◌&&◌, not, List, length, take, drop, refl, sym, ◌∙◌, arith, length-drop}
 use Rattle.std.specs.Prelude.{Result, Ok, Err, ◌==◌, nat_le, slice_index, Option, Some, None}
 use Rattle.std.specs.Option.{ok_or, option_map_or}
@@ -29,14 +29,14 @@ refused false true o is_read rest f h = cc
 refused false false None is_read rest f h = cc
 refused false false (Some s) is_read rest f h = cc
 
--- a service that is not there is refused by the first fault
+-- octets without a service are refused with the first fault
 service_refused : (is_read : Service → Bool) (octets : List ℕ) (f : IsduFault)
     → service_in octets ≡ Err f → fault_among is_read octets ≡ Some f
 unfolding service_in
 service_refused is_read octets f h =
     refused (length octets == 0) (is_reserved octets) (service_at (i_service octets)) is_read _ f h
 
--- so is a service of the other kind
+-- octets of a service of the other kind are refused with the first fault
 other_refused : (is_read : Service → Bool) (octets : List ℕ) (s : Service) → HasService octets s
     → is_read s ≡ false → fault_among is_read octets ≡ Some fault.WrongService
 other_refused is_read octets s h is =
@@ -60,7 +60,7 @@ error_of true true x = refl
 error_of true false x = refl
 error_of false b x = refl
 
--- and what a service of the right kind carries is refused so too
+-- the carried octets of a service of the right kind are refused with the first fault
 carried_refused : (is_read : Service → Bool) (octets : List ℕ) (s : Service) → HasService octets s
     → is_read s ≡ true → result_err (carried_in s octets) ≡ fault_among is_read octets
 unfolding carried_in

@@ -1,4 +1,4 @@
--- An ISDU's parts are read from its octets, and from no others.
+-- The parts of an ISDU are read from its octets, and from no others.
 use Rattle.std.proofs.Common.{◌≡◌, ◌≢◌, ℕ, ◌+◌, ◌-◌, ◌/◌, ◌%◌, ◌<◌, ◌≤◌, Bool, true, false, cond, ◌&&◌, ◌||◌, not, List, [], ◌∷◌, ◌++◌}
 use Rattle.std.proofs.Common.{length, take, refl, ap, sym, ◌∙◌, subst, inl, inr, arith, length-append}
 use Rattle.std.specs.Prelude.{Ok, ◌==◌, nat_lt, nat_le, Option, Some, None, is_none, ◌⊎◌}
@@ -34,7 +34,7 @@ service_in_ok octets s ok =
     let two = passed (is_reserved octets) fault.Reserved _ s one.1 in
     record { some = grind (arith, nat_tests, one.0); free = two.0; service = served _ s two.1 }
 
--- the length that octets with a service state is none of the reserved ones
+-- the length that octets of a service state is not a reserved one
 pub record Stated (octets : List ℕ) : Type 0 where
   pub nonzero : length_field octets ≢ 0
   pub extended : length_field octets ≡ 1 → has_reserved_ext_length octets ≡ false
@@ -54,7 +54,7 @@ stated octets s h =
           let unit : (length_field octets == 1) ≡ true = grind (arith, nat_tests, one) in rw unit at o.1;
     }
 
--- the two ways to be counted
+-- the two ways to state the number of octets
 pub record CountedShort (octets : List ℕ) : Type 0 where
   pub plain : length_field octets ≢ 1
   pub count : length_field octets ≡ length octets
@@ -82,7 +82,7 @@ counted octets h = cases (length_field octets == 1) refl h
     cases false is h =
         inl (record { plain = grind (arith, nat_tests, is); count = grind (arith, nat_tests, h) })
 
--- an ISDU that is counted has two octets at least
+-- an ISDU with the stated number of octets has at least two octets
 pub counted_some : (octets : List ℕ) (s : Service) → HasService octets s → is_counted octets ≡ true
     → 1 < length octets
 counted_some octets s h c =
@@ -148,7 +148,7 @@ long_found first extended more s h c xor =
       xor = xor;
     }
 
--- octets that are counted and checked are an ISDU of what stands between
+-- octets with the stated number and a right CHKPDU are an ISDU of the octets enclosed
 isdu_found : (octets : List ℕ) (s : Service) → HasService octets s → is_counted octets ≡ true
     → xor_of octets ≡ 0 → IsIsduOf octets s (enclosed octets)
 isdu_found [] s h c xor = absurd (omega (arith, h.some))
@@ -160,7 +160,7 @@ isdu_found (first ∷ extended ∷ more) s h c xor =
           long_found first extended more s h long xor
     ]
 
--- what is carried is an ISDU's, and the service carries so many
+-- the carried octets are those of an ISDU, and the service carries this number of octets
 pub carried_found : (octets carried : List ℕ) (s : Service) → HasService octets s
     → carried_in s octets ≡ Ok carried
     → IsIsduOf octets s carried × (carries s (length carried) ≡ true)
@@ -177,7 +177,7 @@ carried_found octets carried s h ok =
     subst (λ b. IsIsduOf octets s b × (carries s (length b) ≡ true)) same
     (isdu_found octets s h both.0 xor, both.1)
 
--- octets are read as a service and what it carries
+-- octets are read as a service and its carried octets
 pub record Reads (octets : List ℕ) (s : Service) (carried : List ℕ) : Type 0 where
   pub service_read : service_in octets ≡ Ok s
   pub carried_read : carried_in s octets ≡ Ok carried
@@ -210,7 +210,7 @@ carries_in octets carried s count middle fits xor =
     let unit : (xor_of octets == 0) ≡ true = grind (arith, nat_tests, xor) in
     rw (count, middle, fits, unit) refl
 
--- octets whose first state their service and their count
+-- octets that begin with their service and state their number
 record Announces (octets : List ℕ) (s : Service) : Type 0 where
   some : 0 < length octets
   code : i_service octets ≡ code_of s
@@ -288,7 +288,7 @@ long_reads first extended carried check s b xor fits =
     })
     (rw many (before_check (length octets - 3) carried check (omega (arith, n)))) fits xor
 
--- an ISDU is read as its service and what it carries
+-- an ISDU is read as its service and its carried octets
 pub isdu_reads : (octets carried : List ℕ) (s : Service) → IsIsduOf octets s carried
     → carries s (length carried) ≡ true → Reads octets s carried
 isdu_reads octets carried s h fits = by_header h.header h.parts h.begins

@@ -1,4 +1,4 @@
--- How long ISDUs are: each states its own length, and of a request's the one in the shortest form
+-- The length of ISDUs: each states its own length, and the ISDU of a request in the shortest form
 -- has the fewest octets.
 use Rattle.std.proofs.Common.{◌≡◌, ◌≢◌, ℕ, ◌+◌, ◌%◌, ◌<◌, ◌≤◌, Bool, true, false, cond, List, [], ◌∷◌, ◌++◌, length, get_or, refl, ap, sym}
 use Rattle.std.proofs.Common.{◌∙◌, subst, inl, inr, arith, length-append}
@@ -20,7 +20,7 @@ use Rattle.iol_link.specs.declared.service.Service.{Service}
 use Rattle.iol_link.specs.declared.service.Service.TheVariants as service
 use Rattle.iol_link.specs.declared.messages.TheConstants.{DATA_OCTETS}
 
--- an ISDU has two or three octets beside what it carries
+-- an ISDU has two or three octets besides the carried ones
 pub data HasLength (count carried : ℕ) : Type 0 where
   short : count ≡ carried + 2 → count ≤ 15 → HasLength count carried
   long : count ≡ carried + 3 → 17 ≤ count → HasLength count carried
@@ -38,7 +38,7 @@ isdu_length octets carried s h = by_header h.header h.parts h.begins
         long (omega (arith, ap length parts, length-append carried (h.check ∷ []))) b.2
     by_header (first ∷ extended ∷ more ∷ rest) parts b = elim b [ ]
 
--- an ISDU that carries more is longer
+-- an ISDU that carries more octets is longer
 longer : (m x n y : ℕ) → HasLength m x → HasLength n y → x ≤ y → m ≤ n
 longer m x n y (short a b) (short c d) le = omega arith
 longer m x n y (short a b) (long c d) le = omega arith
@@ -73,7 +73,7 @@ shortest_count form index subindex can =
     by_tests false false is at Index8Subindex can = omega arith
     by_tests false false is at Index16Subindex can = omega arith
 
--- the shortest form's ISDU, with as many octets behind each address, is the shortest
+-- the ISDU in the shortest form is the shortest, if the same values follow each address
 shortest_isdu : (octets others : List ℕ) (here there : Service) (form : IndexForm)
     (index subindex : ℕ) (values : List ℕ) → FitsForm form index subindex
     → IsIsduOf octets here (address (shortest_form index subindex) index subindex ++ values)
@@ -118,7 +118,7 @@ shortest_write octets index subindex values fits h =
           shortest_isdu octets others _ _ other.0 index subindex values.items other.1.0 h other.1.1;
     }
 
--- the first octets state that there are n octets in all
+-- the first octets state that there are `n` octets in all
 data Counts (first : ℕ) (more : List ℕ) (n : ℕ) : Type 0 where
   alone : first < 16 → n ≡ 1 → Counts first more n
   plain : 16 ≤ first → first % 16 ≢ 1 → n ≡ first % 16 → Counts first more n
@@ -171,7 +171,7 @@ states_length octets h = elim h [
   ]
 ]
 
--- what follows changes nothing of that
+-- octets that follow do not change the stated number
 states_one : (octets rest : List ℕ) (m n : ℕ) → States octets m → States (octets ++ rest) n → m ≡ n
 states_one [] rest m n h k = elim h [ ]
 states_one (first ∷ more) rest m n (alone a b) (alone c d) = omega arith

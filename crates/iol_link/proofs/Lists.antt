@@ -1,4 +1,4 @@
--- Lists of few octets, and their ends.
+-- Lists of octets, and their ends.
 use Rattle.std.proofs.Common.{◌≡◌, ℕ, ◌+◌, ◌-◌, ◌<◌, ◌≤◌, List, [], ◌∷◌, ◌++◌, length, take, drop, get_or, refl, ap, sym, ◌∙◌, arith}
 use Rattle.std.proofs.Common.{append_assoc, length-drop, Bool, true, false}
 use Rattle.std.specs.Prelude.{nat_lt}
@@ -27,11 +27,11 @@ parted xs some =
           ∙ ap (λ r. take (length xs - 1) xs ++ r) (one_left rest one),
     )
 
--- octets at every place
+-- an octet at every place
 abbrev pub AreOctets : List ℕ → Type 0
 AreOctets xs = (i : ℕ) → get_or xs i 0 < 256
 
--- a list in the middle of octets is one of octets
+-- a list within octets is itself one of octets
 pub octets_between : (xs ys zs whole : List ℕ) → whole ≡ xs ++ ys ++ zs → AreOctets whole
     → AreOctets ys
 octets_between xs ys zs whole is all i = by_place (nat_lt i (length ys)) refl

@@ -47,7 +47,7 @@ addressed Index16Subindex (a ∷ b ∷ c ∷ rest) long all =
     let low_is : (a * 256 + b) % 256 ≡ b = omega arith in
     record { fits_form = tt; parts = rw (high_is, low_is) refl }
 
--- the request that an ISDU of a request carries
+-- the request that is carried by an ISDU of a request
 with_found : (access : Access) (form : IndexForm) (octets carried : List ℕ) → AreOctets carried
     → IsIsduOf octets (service.Request access form) carried
     → carries (service.Request access form) (length carried) ≡ true
@@ -81,7 +81,7 @@ by_found (service.Request access form) octets r all h ok =
     subst (IsRequest octets) f.is
     (form, with_found access form octets f.carried inside f.isdu f.fits)
 
--- what is read is the request of these octets
+-- the result of reading is the request of these octets
 pub request_found : (octets : List ℕ) (r : Request) → AreOctets octets → request_of octets ≡ Ok r
     → IsRequest octets r
 unfolding request_of
@@ -89,7 +89,7 @@ request_found octets r all ok =
     let b = bind_ok (service_in octets) _ r ok in
     by_found b.0 octets r all (service_in_ok octets b.0 b.1) b.2
 
--- an address is read as the index and the subindex that it address_reads
+-- an address is read as its index and its subindex
 pub record IsReadAs (form : IndexForm) (index subindex : ℕ) (octets more : List ℕ) : Type 0 where
   pub index_is : index_in form octets ≡ index
   pub subindex_is : subindex_in form octets ≡ subindex

@@ -3,7 +3,7 @@ use Rattle.std.proofs.Common.{ℕ, List, [], ◌∷◌, ◌++◌, subst, sym}
 use Rattle.iol_link.specs.Link.{LinkCall, LinkAnswer, Answered, Run}
 
 module _ {L : Type 0} (number : L → ℕ) (steps : L → LinkCall → LinkAnswer → L → Type 0) where
-  -- a run goes on with another
+  -- a run continues with another
   pub run-append : (first middle last : L) (early late : List Answered)
       → Run number steps first early middle → Run number steps middle late last
       → Run number steps first (early ++ late) last

@@ -1,4 +1,4 @@
--- A message is read from what an ISDU of its service carries, and from no other octets.
+-- A message is read from the octets that an ISDU of its service carries, and from no other octets.
 use Rattle.std.proofs.Common.{◌≡◌, ℕ, true, List, length, refl}
 use Rattle.std.specs.Prelude.{Result, Ok}
 use Rattle.iol_link.specs.Isdu.{IsIsduOf}
@@ -9,7 +9,7 @@ use Rattle.iol_link.proofs.IsduParts.{HasService, carried_found, isdu_reads}
 use Rattle.iol_link.specs.declared.service.Service.{Service}
 use Rattle.iol_link.specs.declared.faults.IsduFault.{IsduFault}
 
--- a reading of a service's octets by what they carry
+-- reads the octets of a service through the octets that they carry
 abbrev pub by_carried : {A : Type 0} → (List ℕ → A) → Service → List ℕ → Result A IsduFault
 by_carried message s octets = carried_in s octets >>= λ carried. Ok (message carried)
 

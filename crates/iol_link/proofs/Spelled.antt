@@ -1,4 +1,4 @@
--- ISDUs put together from what they carry, where CHKPDU is right.
+-- ISDUs put together from their carried octets, with a right CHKPDU.
 use Rattle.std.proofs.Common.{◌≡◌, ℕ, ◌+◌, ◌*◌, ◌≤◌, List, [], ◌∷◌, ◌++◌, length, refl, ap, arith, length-append}
 use Rattle.iol_link.specs.Isdu.{IsIsduOf, xor_of}
 use Rattle.iol_link.specs.Service.{code_of}

@@ -1,4 +1,4 @@
--- Steps that may fail, and tests: what follows of their parts.
+-- Steps that may fail, and tests, with the facts that follow of their parts.
 use Rattle.std.proofs.Common.{◌≡◌, Bool, true, false, cond, ◌&&◌, ◌||◌, not, refl}
 use Rattle.std.specs.Prelude.{Result, Ok, Err}
 use Rattle.iol_link.specs.Reading.{◌>>=◌}
@@ -9,7 +9,7 @@ pub bind_ok : {A B : Type 0} (r : Result A IsduFault) (f : A → Result B IsduFa
 bind_ok (Ok x) f y h = (x, refl, h)
 bind_ok (Err e) f y h = cc
 
--- the fault of a test did not come
+-- if the result is a value, the fault of the test did not occur
 pub passed : {A : Type 0} (b : Bool) (e : IsduFault) (r : Result A IsduFault) (y : A)
     → cond b (Err e) r ≡ Ok y → (b ≡ false) × (r ≡ Ok y)
 passed true e r y h = cc

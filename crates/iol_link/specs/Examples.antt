@@ -1,4 +1,4 @@
--- The pages that examples speak of.
+-- The pages that examples use.
 use Rattle.std.specs.Prelude.{ℕ, Bool, [], ◌∷◌, List, map, Option}
 use Rattle.iol_types.specs.Examples.{example_config}
 use Rattle.iol_types.specs.declared.config.Validation.TheVariants.{NoCheck, TypeCompatibleV10, TypeCompatibleV11, BackupAndRestore, Restore}
@@ -10,8 +10,8 @@ use Rattle.iol_link.specs.declared.validation.IdentFault.{IdentFault}
 abbrev pub example_page : ℕ → Bool → PageValue
 example_page revision has_isdu = record { vendor = 500; device = 43981; revision = revision; min_cycle_time = 23; has_isdu = has_isdu }
 
--- for worked examples: the faults of a device with this page under the validations 0 to 4, where vendor 500 and device
--- 43981 are configured (own)
+-- for worked examples: the faults of a device with this page under the validations 0 to 4, if vendor 500 and device 43981
+-- are configured (own)
 abbrev pub faults_of : PageValue → List (Option IdentFault)
 faults_of page =
     map (λ validation. ident_fault (record example_config { validation = validation }) page)

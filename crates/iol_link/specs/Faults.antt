@@ -1,4 +1,4 @@
--- Why octets are no message, and which fault is named where there are several.
+-- Why octets are not a message, and which fault is named if there are several.
 use Rattle.std.specs.Prelude.{ℕ, ◌/◌, ◌%◌, ◌-◌, ◌==◌, ◌&&◌, ◌||◌, not, Bool, false, nat_lt, nat_le, List, length, slice_index}
 use Rattle.std.specs.Prelude.{if◌then◌else◌, Option, Some, None, is_none}
 use Rattle.std.specs.Option.{option_map_or}
@@ -16,7 +16,7 @@ i_service octets = slice_index octets 0 / 16
 abbrev pub length_field : List ℕ → ℕ
 length_field octets = slice_index octets 0 % 16
 
--- the octets go on behind the first, where ExtLength stands (standard, ISDU)
+-- there are octets after the first, where ExtLength is (standard, ISDU)
 abbrev pub has_ext_length : List ℕ → Bool
 has_ext_length octets = nat_lt 1 (length octets)
 
@@ -30,33 +30,33 @@ has_reserved_ext_length octets =
     has_ext_length octets
     && (nat_lt (ext_length octets) 17 || nat_lt 238 (ext_length octets))
 
--- what the standard reserves: Length over 1 with I-Service 0; an I-Service that no service has;
--- with the others Length 0, and such an ExtLength (standard, ISDU)
+-- the values that the standard reserves: with I-Service 0, a Length over 1; an I-Service of no
+-- service; with any other I-Service, Length 0 or a reserved ExtLength (standard, ISDU)
 abbrev pub is_reserved : List ℕ → Bool
 is_reserved octets =
     if i_service octets == 0 then nat_lt 1 (length_field octets)
     else ((is_none (service_at (i_service octets)) || (length_field octets == 0))
     || ((length_field octets == 1) && has_reserved_ext_length octets))
 
--- Length, or ExtLength where Length is 1, is the count of all octets (standard, ISDU)
+-- Length, or ExtLength if Length is 1, is the number of all octets (standard, ISDU)
 abbrev pub is_counted : List ℕ → Bool
 is_counted octets =
     if length_field octets == 1 then has_ext_length octets && (ext_length octets == length octets)
     else length_field octets == length octets
 
--- how many octets an ISDU of so many octets carries, between its count and CHKPDU (standard,
--- ISDU)
+-- how many octets an ISDU of `count` octets carries, between its length and CHKPDU (standard, ISDU)
 abbrev pub carried_count : ℕ → ℕ
 carried_count count = if nat_le count 15 then count - 2 else count - 3
 
--- the octets are as many as they state, and their service carries so many (standard, ISDU)
+-- the number of octets is the stated one, and their service carries this number of octets
+-- (standard, ISDU)
 abbrev pub has_its_length : List ℕ → Bool
 has_its_length octets =
     is_counted octets
     && option_map_or (λ s. carries s (carried_count (length octets)))
     (service_at (i_service octets)) false
 
--- the first fault of octets, in the order of judging, where services of one kind are read
+-- the first fault of octets, in the order of the checks, if services of one kind are read
 -- (format, ISDU)
 abbrev pub fault_among : (Service → Bool) → List ℕ → Option IsduFault
 fault_among is_read octets =
@@ -71,8 +71,8 @@ fault_among is_read octets =
 abbrev pub request_fault : List ℕ → Option IsduFault
 request_fault octets = fault_among is_request octets
 
--- the first fault of octets that are read as an answer; nothing may follow 01, which is Device
--- busy (format, ISDU)
+-- the first fault of octets that are read as an answer; nothing may follow 01, which is Device busy
+-- (format, ISDU)
 abbrev pub answer_fault : List ℕ → Option IsduFault
 answer_fault octets =
     if slice_index octets 0 == 1 then (if length octets == 1 then None else Some Length)

@@ -1,4 +1,4 @@
--- Which octets an ISDU is, and of which message (IO-Link V1.1, ISDU).
+-- Which octets are an ISDU, and of which message (IO-Link V1.1, ISDU).
 use Rattle.std.specs.Prelude.{◌≡◌, ◌+◌, ◌*◌, ◌≤◌, ℕ, List, [], ◌∷◌, ◌++◌, length, fold, bit_xor, ◌⊎◌}
 use Rattle.iol_link.specs.Service.{code_of, address, FitsForm}
 use Rattle.iol_link.specs.declared.service.Access.TheVariants as access
@@ -11,12 +11,12 @@ use Rattle.iol_link.specs.declared.messages.Request.TheVariants.{Read, Write}
 use Rattle.iol_link.specs.declared.messages.Answer.{Answer}
 use Rattle.iol_link.specs.declared.messages.Answer.TheVariants.{ReadOk, ReadFault, WriteOk, WriteFault, Busy}
 
--- all octets, by exclusive or (standard, ISDU)
+-- the XOR of all octets (standard, ISDU)
 abbrev pub xor_of : List ℕ → ℕ
 xor_of octets = fold bit_xor 0 octets
 
--- An ISDU of so many octets begins so: I-Service in bits 4 to 7 of the first octet, and Length in bits 0 to 3. Length is the
--- count, from 2 to 15, or it is 1 and the next octet, ExtLength, is the count, from 17 to 238 (standard, ISDU)
+-- the beginning of an ISDU of `count` octets: I-Service in bits 4 to 7 of the first octet, and Length in bits 0 to 3. Length
+-- is the count, from 2 to 15, or it is 1 and the next octet, ExtLength, is the count, from 17 to 238 (standard, ISDU)
 abbrev pub Begins : Service → ℕ → List ℕ → Type 0
 Begins service count [] = ⊥
 Begins service count (first ∷ []) =
@@ -26,8 +26,8 @@ Begins service count (first ∷ extended ∷ []) =
     × (17 ≤ count) × (count ≤ 238)
 Begins service count (first ∷ extended ∷ more ∷ rest) = ⊥
 
--- an ISDU of a service: the service and the count of all octets, what the service carries, and
--- CHKPDU, which makes the XOR of all octets 0 (standard, ISDU)
+-- an ISDU of a service: the service and the number of all octets, the octets that the service carries, and CHKPDU, which
+-- makes the XOR of all octets 0 (standard, ISDU)
 pub record IsIsduOf (octets : List ℕ) (service : Service) (carried : List ℕ) : Type 0 where
   pub header : List ℕ
   pub check : ℕ
@@ -35,7 +35,7 @@ pub record IsIsduOf (octets : List ℕ) (service : Service) (carried : List ℕ)
   pub begins : Begins service (length octets) header
   pub xor : xor_of octets ≡ 0
 
--- the ISDU of an answer, by its service; Device busy is the octet 01 alone (standard, ISDU)
+-- the ISDU of an answer, with the service of its kind; Device busy is the octet 01 alone (standard, ISDU)
 abbrev pub IsAnswer : List ℕ → Answer → Type 0
 IsAnswer octets (ReadOk values) =
     IsIsduOf octets (service.Response access.Read sign.Plus) values.items
@@ -47,8 +47,7 @@ IsAnswer octets (WriteFault error additional) =
     IsIsduOf octets (service.Response access.Write sign.Minus) (error ∷ additional ∷ [])
 IsAnswer octets Busy = octets ≡ 1 ∷ []
 
--- an ISDU of a request in one of the index forms, which fits its index and subindex (standard,
--- ISDU)
+-- an ISDU of a request in this index form, which fits its index and subindex (standard, ISDU)
 abbrev pub IsRequestIn : IndexForm → List ℕ → Request → Type 0
 IsRequestIn form octets (Read index subindex) =
     FitsForm form index subindex
@@ -63,7 +62,7 @@ IsRequestIn form octets (Write index subindex values) =
 abbrev pub IsRequest : List ℕ → Request → Type 0
 IsRequest octets request = (form : IndexForm) × IsRequestIn form octets request
 
--- the shortest ISDU of a request: none in another form has fewer octets (standard, ISDU)
+-- the shortest ISDU of a request: no other ISDU of the request has fewer octets (standard, ISDU)
 pub record IsShortestRequest (octets : List ℕ) (request : Request) : Type 0 where
   pub of_request : IsRequest octets request
   pub shortest : (others : List ℕ) → IsRequest others request → length octets ≤ length others

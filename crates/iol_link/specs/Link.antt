@@ -1,15 +1,15 @@
--- Calls of a link to devices, and runs of them.
+-- Calls of a link to devices, and runs of calls.
 use Rattle.std.specs.Prelude.{◌≡◌, ◌+◌, ◌-◌, ◌^◌, ℕ, List, [], ◌∷◌, Option, Some, None, Result, Ok, Err, min}
 use Rattle.arrayvec.specs.ArrayVec.{ArrayVec}
 use Rattle.iol_link.specs.declared.link.Lost.{Lost}
 
--- what a link is asked: an event, the page, or a request of these octets (own)
+-- what a link is asked for: an event, the page, or the answer to a request of these octets (own)
 pub data LinkCall : Type 0 where
   TakeEvent : LinkCall
   ReadPage : LinkCall
   Exchange : (request : List ℕ) → LinkCall
 
--- what a link answers: no event, an event's code, octets, or that the device is gone (own)
+-- the answer of a link: no event, the code of an event, octets, or that the device is lost (own)
 pub data LinkAnswer : Type 0 where
   NoEvent : LinkAnswer
   Event : (code : ℕ) → LinkAnswer
@@ -35,22 +35,22 @@ exchange_answer (Err _) = Gone
 abbrev pub last_connection : ℕ
 last_connection = 2 ^ 64 - 1
 
--- the number of the connection after an answer: one more where the device is lost, and never more
--- than the largest (own)
+-- the number of the connection after an answer: one more if the device is lost, but never more than
+-- the largest (own)
 abbrev pub connection_after : ℕ → LinkAnswer → ℕ
 connection_after number Gone = min (number + 1) last_connection
 connection_after number NoEvent = number
 connection_after number (Event _) = number
 connection_after number (Octets _) = number
 
--- a call that was made, on a connection, and its answer (own)
+-- a call that was made, the connection on which it was made, and its answer (own)
 pub record Answered : Type 0 where
   pub connection : ℕ
   pub call : LinkCall
   pub answer : LinkAnswer
 
 module _ {L : Type 0} (number : L → ℕ) (steps : L → LinkCall → LinkAnswer → L → Type 0) where
-  -- calls, each on the connection of its moment, lead from one link to another (own)
+  -- these calls, each on the connection of its time, lead from one link to another (own)
   abbrev pub Run : L → List Answered → L → Type 0
   Run link [] last = link ≡ last
   Run link (made ∷ more) last =

@@ -8,7 +8,7 @@ use Rattle.iol_link.specs.declared.service.Sign.TheVariants.{Plus, Minus}
 use Rattle.iol_link.specs.declared.service.Service.{Service}
 use Rattle.iol_link.specs.declared.service.Service.TheVariants.{Request, Response}
 
--- the I-Service that stands for a service (standard, ISDU)
+-- the I-Service of a service (standard, ISDU)
 abbrev pub code_of : Service → ℕ
 code_of (Request Write Index8) = 1
 code_of (Request Write Index8Subindex) = 2
@@ -29,42 +29,41 @@ services =
     ∷ Request Read Index8 ∷ Request Read Index8Subindex ∷ Request Read Index16Subindex
     ∷ Response Read Minus ∷ Response Read Plus ∷ []
 
--- the service that an I-Service stands for, if there is one (standard, ISDU)
+-- the service with this I-Service, if there is one (standard, ISDU)
 unfoldable pub service_at : ℕ → Option Service
 service_at code = find (λ s. code_of s == code) services
 
--- a service is that of a request (standard, ISDU)
+-- this service is that of a request (standard, ISDU)
 abbrev pub is_request : Service → Bool
 is_request (Request _ _) = true
 is_request (Response _ _) = false
 
--- the octets of an index and a subindex in a form (standard, ISDU)
+-- the octets of an index and a subindex in this form (standard, ISDU)
 abbrev pub address : IndexForm → ℕ → ℕ → List ℕ
 address Index8 index subindex = index ∷ []
 address Index8Subindex index subindex = index ∷ subindex ∷ []
 address Index16Subindex index subindex = (index / 256) ∷ (index % 256) ∷ subindex ∷ []
 
--- the form fits this index and subindex: a form without subindex means subindex 0 (standard,
--- ISDU)
+-- the form fits this index and subindex: a form without subindex means subindex 0 (standard, ISDU)
 abbrev pub FitsForm : IndexForm → ℕ → ℕ → Type 0
 FitsForm Index8 index subindex = (index < 256) × (subindex ≡ 0)
 FitsForm Index8Subindex index subindex = index < 256
 FitsForm Index16Subindex index subindex = Unit {0}
 
--- the shortest of the forms that fit an index and a subindex (standard, ISDU)
+-- the shortest form that fits this index and subindex (standard, ISDU)
 abbrev pub shortest_form : ℕ → ℕ → IndexForm
 shortest_form index subindex =
     if nat_lt 255 index then Index16Subindex else if subindex == 0 then Index8 else Index8Subindex
 
--- how many octets the index and subindex take in a form (standard, ISDU)
+-- how many octets the index and subindex take in this form (standard, ISDU)
 abbrev pub address_count : IndexForm → ℕ
 address_count Index8 = 1
 address_count Index8Subindex = 2
 address_count Index16Subindex = 3
 
--- A service carries so many octets between the count and CHKPDU. A request carries its address, and to write up to 232
--- octets of data too. A positive response carries up to 232 octets of data to a read, and none to a write. A negative
--- response carries its two codes (standard, ISDU)
+-- this service carries this number of octets between the length and CHKPDU. A request carries its address, and a write
+-- also up to 232 octets of data. A positive response to a read carries up to 232 octets of data, and to a write none.
+-- A negative response carries its two codes (standard, ISDU)
 abbrev pub carries : Service → ℕ → Bool
 carries (Request Read form) count = count == address_count form
 carries (Request Write form) count =

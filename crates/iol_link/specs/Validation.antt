@@ -1,4 +1,4 @@
--- What a port's validation asks of a device.
+-- What the validation of a port requires of a device.
 use Rattle.std.specs.Prelude.{ℕ, ◌==◌, ◌&&◌, not, nat_le, nat_lt, Bool, if◌then◌else◌, Option, Some, None}
 use Rattle.iol_types.specs.Config.{validation_octet}
 use Rattle.iol_types.specs.declared.config.PortConfig.{PortConfig}
@@ -6,12 +6,12 @@ use Rattle.iol_link.specs.Page.{PageValue}
 use Rattle.iol_link.specs.declared.validation.IdentFault.{IdentFault}
 use Rattle.iol_link.specs.declared.validation.IdentFault.TheVariants.{Vendor, Device, Revision, NoIsdu}
 
--- the configured validation is the one with this octet or a later one; each asks what those before it ask (own)
+-- the configured validation is the one with this octet or a later one; each requires what those before it require (own)
 abbrev pub asks_from : ℕ → PortConfig → Bool
 asks_from octet config = nat_le octet (validation_octet config.validation)
 
--- the first cause why a device with this page is not the one that the configuration wants, if there is one. From validation
--- 1 on it is the vendor and then the device, from 2 on a RevisionID below 11, from 3 on ISDU that is not supported (own)
+-- the first reason why a device with this page is not the one that the configuration requires, if any: from validation 1 on
+-- the vendor, then the device; from 2 on a RevisionID below 11; from 3 on that ISDU is not supported (own)
 abbrev pub ident_fault : PortConfig → PageValue → Option IdentFault
 ident_fault config page =
     if asks_from 1 config && not (page.vendor == config.vendor) then Some Vendor

@@ -1,8 +1,9 @@
-//! Why octets are no message.
+//! The reasons why octets are not a message.
 
 use thiserror::Error;
 
-/// The first fault of octets that were read as a request or as an answer, in the order of judging.
+/// The first fault of octets that were read as a request or as an answer, in the order of the
+/// checks.
 #[derive(Clone, Copy, Debug, PartialEq, Eq, Drop, Error)]
 pub enum IsduFault {
     /// There is no octet.
@@ -12,11 +13,12 @@ pub enum IsduFault {
     /// with an ExtLength of 0 to 16 or 239 to 255.
     #[error("a reserved I-Service or length")]
     Reserved,
-    /// A request read as an answer, an answer or Device busy read as a request, or No Service.
+    /// A request that was read as an answer, an answer or Device busy that was read as a request,
+    /// or No Service.
     #[error("another service")]
     WrongService,
-    /// ExtLength is missing, the count of octets is not the stated one, or the service does not
-    /// carry so many octets.
+    /// ExtLength is missing, the number of octets is not the stated one, or the service does not
+    /// carry this number of octets.
     #[error("a wrong count of octets")]
     Length,
     /// The XOR of all octets is not 0.

@@ -1,5 +1,5 @@
-//! ISDUs with octets of the standard (IO-Link V1.1, ISDU), worked out by the check: an octet that is
-//! wrong in a definition and in the code alike is refused here.
+//! ISDUs with octets of the standard (IO-Link V1.1, ISDU), worked out by the check, which rejects an octet that is wrong in
+//! both a definition and the code.
 
 ghost use Rattle.std.specs.Prelude.{◌≡◌, ℕ, List, [], ◌∷◌, ◌++◌, length, map, replicate, take};
 ghost use Rattle.arrayvec.specs.ArrayVec.{ArrayVec};
@@ -13,7 +13,7 @@ use crate::faults::IsduFault;
 use crate::messages::{Answer, Request};
 use crate::service::{Access, IndexForm, Service, Sign};
 
-/// The I-Service of each service. 0, 6, 7, 8, E and F stand for none.
+/// The I-Service of each service. 0, 6, 7, 8, E and F belong to no service.
 #[tactic(auto, unfolding(crate::specs::Service::service_at))]
 pub fn services()
     ensures writes { map (λ form. code_of (Service.Request Access.Write form))
@@ -48,7 +48,7 @@ pub fn read_requests_with_a_subindex()
     ensures index_256 { IsShortestRequest (0xB5 ∷ 0x01 ∷ 0x00 ∷ 0x01 ∷ 0xB5 ∷ []) (Request.Read 0x0100 1) }
 {}
 
-/// Requests to write 0A, in each index form.
+/// Requests that write 0A, in each index form.
 pub fn write_requests()
     ensures index_16 { IsShortestRequest (0x14 ∷ 0x10 ∷ 0x0A ∷ 0x0E ∷ [])
         (Request.Write 0x0010 0 (record { items = 0x0A ∷ [] })) }
@@ -58,7 +58,7 @@ pub fn write_requests()
         (Request.Write 0x0100 1 (record { items = 0x0A ∷ [] })) }
 {}
 
-/// The longest ISDU has 238 octets, and a message at most 232 data octets.
+/// The longest ISDU has 238 octets, and a message has at most 232 data octets.
 pub fn limits()
     ensures octets { ISDU_OCTETS ≡ 238 }
     ensures data_octets { DATA_OCTETS ≡ 232 }
@@ -77,7 +77,7 @@ pub fn positive_answers()
         (Answer.ReadOk (record { items = replicate 232 0x00 })) }
 {}
 
-/// How each positive answer to a read with 13, 14 and 232 data octets begins.
+/// The first octets of each positive answer to a read, with 13, 14 and 232 data octets.
 pub fn beginnings()
     ensures of_13 { (octets : List ℕ) (values : ArrayVec ℕ) → length values.items ≡ 13
         → IsAnswer octets (Answer.ReadOk values) → take 1 octets ≡ 0xDF ∷ [] }
@@ -87,7 +87,7 @@ pub fn beginnings()
         → IsAnswer octets (Answer.ReadOk values) → take 2 octets ≡ 0xD1 ∷ 0xEB ∷ [] }
 {}
 
-/// The longest request: 232 zeros to Index 0100, Subindex 0.
+/// The longest request: it writes 232 zeros to Index 0100, Subindex 0.
 pub fn the_longest_write()
     ensures { IsShortestRequest
         (0x31 ∷ 0xEE ∷ 0x01 ∷ 0x00 ∷ 0x00 ∷ (replicate 232 0x00 ++ 0xDE ∷ []))
@@ -105,8 +105,8 @@ pub fn other_answers()
         ∷ (0xC4 ∷ 0x80 ∷ 0x11 ∷ 0x55 ∷ []) ∷ (0x52 ∷ 0x52 ∷ []) ∷ (0x01 ∷ []) ∷ []) ≡ replicate 4 None }
 {}
 
-/// Octets that are reserved whatever follows them: I-Service 0 with a Length over 1, an I-Service of no service, Length 0 with
-/// any service, and ExtLength 0 to 16 and 239 to 255.
+/// Octets that are reserved whatever follows them: I-Service 0 with a Length over 1, an I-Service without a service, Length 0
+/// with any service, and ExtLength 0 to 16 and 239 to 255.
 #[tactic(auto, unfolding(crate::specs::Service::service_at))]
 pub fn reserved_beginnings()
     ensures length_with_0 { (rest : List ℕ) → map (λ first. request_fault (first ∷ rest)) (0x02 ∷ 0x03 ∷ 0x0F ∷ [])
@@ -136,8 +136,8 @@ pub fn other_services()
         ∷ (0xB5 ∷ 0x01 ∷ 0x00 ∷ 0x00 ∷ 0xB4 ∷ []) ∷ (0x14 ∷ 0x10 ∷ 0x0A ∷ 0x0E ∷ []) ∷ []) ≡ replicate 5 (Some IsduFault.WrongService) }
 {}
 
-/// Requests of a wrong count of octets: ExtLength is missing, not as many as stated, an address that is not whole, data behind
-/// a read, and 233 data octets.
+/// Requests with a wrong number of octets: ExtLength is missing, the number is not the stated one, an address is incomplete,
+/// data follow a read, and a write has 233 data octets.
 #[tactic(auto, unfolding(crate::specs::Service::service_at))]
 pub fn counts_of_requests()
     ensures stated { map request_fault ((0x91 ∷ []) ∷ (0x94 ∷ 0x10 ∷ 0x84 ∷ []) ∷ (0x93 ∷ 0x10 ∷ 0x00 ∷ 0x83 ∷ []) ∷ [])
@@ -150,8 +150,8 @@ pub fn counts_of_requests()
         → request_fault (0x11 ∷ 0xED ∷ rest) ≡ Some IsduFault.Length }
 {}
 
-/// Answers of a wrong count of octets: ExtLength is missing, not as many as stated, data behind a write, one code and three,
-/// and 233 and 235 data octets.
+/// Answers with a wrong number of octets: ExtLength is missing, the number is not the stated one, data follow a write, a
+/// negative answer has one code or three, and a read has 233 or 235 data octets.
 #[tactic(auto, unfolding(crate::specs::Service::service_at))]
 pub fn counts_of_answers()
     ensures stated { map answer_fault ((0xD1 ∷ []) ∷ (0xD3 ∷ 0xD3 ∷ []) ∷ (0xD2 ∷ 0x00 ∷ 0xD2 ∷ []) ∷ [])
@@ -165,7 +165,8 @@ pub fn counts_of_answers()
         → answer_fault (0xD1 ∷ 0xEE ∷ rest) ≡ Some IsduFault.Length }
 {}
 
-/// Of several faults the first is named: no octet, what is reserved, another service, the count of octets, CHKPDU.
+/// If there are several faults, the first is named, in this order: no octet, a reserved value, another service, the number of
+/// octets, CHKPDU.
 #[tactic(auto, unfolding(crate::specs::Service::service_at))]
 pub fn orders_of_faults()
     ensures empty { answer_fault [] ≡ Some IsduFault.Empty }

@@ -1,11 +1,11 @@
-//! Laws of links, which no code calls.
+//! Laws of links. No code calls them.
 
 ghost use Rattle.std.specs.Prelude.{List, ◌++◌};
 ghost use Rattle.iol_link.specs.Link.{Answered, Run};
 
 use crate::link::DeviceLink;
 
-/// Where one run of a link ends another may begin, and both are one run.
+/// If one run of a link begins where another ended, both together are one run.
 pub fn runs_join<L: DeviceLink>()
     ensures { (first middle last : L) (early late : List Answered)
         → Run L.number L.steps first early middle → Run L.number L.steps middle late last

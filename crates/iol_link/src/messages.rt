@@ -1,8 +1,8 @@
-//! Requests to a device, and its answers.
+//! The requests to a device, and its answers.
 
 use arrayvec::ArrayVec;
 
-/// The most data octets that a message has.
+/// The most data octets that a message can have.
 pub const DATA_OCTETS: usize = 232;
 
 /// A request of the master (IO-Link V1.1, ISDU). Subindex 0 names the whole object of an Index.

@@ -6,8 +6,8 @@ use crate::link::PAGE_OCTETS;
 use iol_types::DeviceId;
 use std::marker::Model;
 
-// The addresses of what is read of the page (IO-Link V1.1, Direct Parameter page 1); a number of several octets
-// begins with the most significant.
+// The addresses of the octets that are read from the page (IO-Link V1.1, Direct Parameter page 1). A number of
+// several octets begins with the most significant.
 const MIN_CYCLE_TIME: usize = 0x02;
 
 const M_SEQUENCE_CAPABILITY: usize = 0x03;
@@ -18,8 +18,8 @@ const VENDOR_ID: usize = 0x07;
 
 const DEVICE_ID: usize = 0x09;
 
-/// What Direct Parameter page 1 says of a device (IO-Link V1.1, Direct Parameter page 1). A contract sees the record
-/// `PageValue` of `specs/Page.antt`.
+/// The contents of Direct Parameter page 1 of a device (IO-Link V1.1, Direct Parameter page 1). A contract sees the
+/// record `PageValue` of `specs/Page.antt`.
 #[derive(Clone, Copy, PartialEq, Eq)]
 pub struct Page {
     vendor: u16,
@@ -52,7 +52,7 @@ impl Model for Page {
 }
 
 impl Page {
-    /// Reads the octets of the page. Each page can be read.
+    /// Reads the octets of the page. Every page can be read.
     pub fn read(octets: &[u8; PAGE_OCTETS]) -> Page
         ensures { result ≡ page_of octets.now }
     {
@@ -90,7 +90,7 @@ impl Page {
         self.revision
     }
 
-    /// MinCycleTime in tenths of a millisecond, or `None` where its time base is reserved.
+    /// MinCycleTime in tenths of a millisecond, or `None` if its time base is reserved.
     pub fn min_cycle_tenths(&self) -> Option<u32>
         ensures { result ≡ min_cycle_tenths self.now.min_cycle_time }
     {
@@ -103,7 +103,7 @@ impl Page {
         }
     }
 
-    /// Whether the device knows ISDUs.
+    /// Whether the device supports ISDUs.
     pub fn has_isdu(&self) -> bool
         ensures { result ≡ self.now.has_isdu }
     {

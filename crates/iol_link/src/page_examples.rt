@@ -1,5 +1,5 @@
-//! A page, its MinCycleTime, and devices that a port does not want, worked out by the check: a number that is wrong in a
-//! definition and in the code alike is refused here.
+//! A page, its MinCycleTime, and devices that a port rejects, worked out by the check, which rejects a number that is
+//! wrong in both a definition and the code.
 
 ghost use Rattle.std.specs.Prelude.{◌≡◌, [], ◌∷◌, map, Some, None, true, false};
 ghost use Rattle.iol_link.specs.Page.{page_of, min_cycle_tenths};
@@ -13,7 +13,7 @@ pub const EXAMPLE_PAGE: [u8; PAGE_OCTETS] = [
     0x00, 0x00, 0x17, 0x01, 0x11, 0x00, 0x00, 0x01, 0xF4, 0x00, 0xAB, 0xCD, 0x00, 0x00, 0x00, 0x00,
 ];
 
-/// What the page says: vendor 500, device 43981, V1.1, 23 tenths of a millisecond, ISDU.
+/// The values on the page: vendor 500, device 43981, V1.1, 23 tenths of a millisecond, ISDU.
 pub fn the_page()
     ensures vendor { (page_of EXAMPLE_PAGE).vendor ≡ 500 }
     ensures device { (page_of EXAMPLE_PAGE).device ≡ 43981 }
@@ -22,7 +22,7 @@ pub fn the_page()
     ensures isdu { (page_of EXAMPLE_PAGE).has_isdu ≡ true }
 {}
 
-/// Each octet of the page is read at its own address, and of M-sequence Capability bit 0 alone.
+/// Each octet of the page is read at its own address, and only bit 0 of M-sequence Capability is used.
 pub fn addresses()
     ensures in_order { page_of (0 ∷ 1 ∷ 2 ∷ 3 ∷ 4 ∷ 5 ∷ 6 ∷ 7 ∷ 8 ∷ 9 ∷ 10 ∷ 11 ∷ 12 ∷ 13 ∷ 14 ∷ 15 ∷ [])
         ≡ record { vendor = 0x0708; device = 0x090A0B; revision = 0x04; min_cycle_time = 0x02; has_isdu = true } }
@@ -38,8 +38,8 @@ pub fn min_cycle_times()
     ensures reserved { map min_cycle_tenths (0xC0 ∷ 0xFF ∷ []) ≡ None ∷ None ∷ [] }
 {}
 
-/// The faults of devices under the validations 0 to 4, where vendor 500 and device 43981 are configured: the page above,
-/// and pages with one fault.
+/// The faults of devices under the validations 0 to 4, if vendor 500 and device 43981 are configured: for the page
+/// above, and for pages with one fault.
 pub fn one_fault()
     ensures wanted { faults_of (page_of EXAMPLE_PAGE) ≡ None ∷ None ∷ None ∷ None ∷ None ∷ [] }
     ensures vendor { faults_of (record (example_page 0x11 true) { vendor = 501 })
@@ -57,7 +57,7 @@ pub fn one_fault()
     ensures later_revision { faults_of (example_page 0x12 true) ≡ None ∷ None ∷ None ∷ None ∷ None ∷ [] }
 {}
 
-/// Of several faults the first is named: the vendor, then the device, then the revision, then ISDU.
+/// If there are several faults, the first is named, in this order: the vendor, the device, the revision, ISDU.
 pub fn several_faults()
     ensures all { faults_of (record { vendor = 501; device = 43982; revision = 0x10; min_cycle_time = 0; has_isdu = false })
         ≡ None ∷ Some IdentFault.Vendor ∷ Some IdentFault.Vendor ∷ Some IdentFault.Vendor ∷ Some IdentFault.Vendor ∷ [] }

@@ -1,7 +1,7 @@
 //! The parts of an ISDU (IO-Link V1.1, ISDU), in the order of their octets:
 //!
 //! - I-Service in bits 4 to 7 and Length in bits 0 to 3. Length counts all octets, from 2 to 15.
-//! - ExtLength, where Length is 1: it counts all octets, from 17 to 238.
+//! - ExtLength, only if Length is 1: it counts all octets, from 17 to 238.
 //! - What the service carries: an address, data, or two codes.
 //! - CHKPDU, which makes the XOR of all octets 0.
 
@@ -15,30 +15,30 @@ use crate::faults::IsduFault;
 use crate::service::Service;
 use arrayvec::ArrayVec;
 
-/// The most octets that an ISDU has, which is the most that ExtLength counts.
+/// The most octets that an ISDU can have, which is also the most that ExtLength can count.
 pub const ISDU_OCTETS: usize = 238;
 
-// The most octets that are carried: an address of three and 232 of data.
+// The most octets that can be carried: 3 of address and 232 of data.
 const CARRIED_OCTETS: usize = 235;
 
-// The most octets that Length counts.
+// The most octets that Length can count.
 const LARGEST_LENGTH: usize = 15;
 
-// The fewest octets that ExtLength counts.
+// The fewest octets that ExtLength can count.
 const SMALLEST_EXT_LENGTH: u8 = 17;
 
-// The one octet of Device busy: I-Service 0 with Length 1.
+// The single octet of Device busy: I-Service 0 with Length 1.
 pub(crate) const DEVICE_BUSY: u8 = 0x01;
 
-// All octets, by exclusive or.
+// The XOR of all octets.
 fn xor(octets: &[u8]) -> u8
     ensures { result ≡ xor_of octets.now }
 {
     octets.iter().fold(0, |all, octet| all ^ *octet)
 }
 
-// The service that octets begin with, or the first fault of their header: `Empty`, `Reserved`, and
-// `WrongService` for I-Service 0.
+// The service that the octets begin with, or the first fault of their header: `Empty`, `Reserved`,
+// or `WrongService` for I-Service 0.
 #[tactic(auto, unfolding(crate::specs::Reading::service_in))]
 pub(crate) fn service_in(octets: &[u8]) -> Result<Service, IsduFault>
     ensures { result ≡ service_in octets.now }
@@ -52,7 +52,7 @@ pub(crate) fn service_in(octets: &[u8]) -> Result<Service, IsduFault>
     Service::of_code(octets[0] / 16).ok_or(IsduFault::WrongService)
 }
 
-// Whether the first two octets are reserved ones.
+// Whether the first two octets have a value that the standard reserves.
 fn is_reserved(octets: &[u8]) -> bool
     requires { 0 < length octets.now }
     ensures { result ≡ is_reserved octets.now }
@@ -73,7 +73,7 @@ fn has_reserved_ext_length(octets: &[u8]) -> bool
     octets.len() > 1 && (octets[1] < SMALLEST_EXT_LENGTH || usize::from(octets[1]) > ISDU_OCTETS)
 }
 
-// What octets of this service carry, or the fault that they have behind their header: `Length` or
+// The octets that an ISDU of this service carries, or the fault found after the header: `Length` or
 // `Check`.
 #[tactic(auto, unfolding(crate::specs::Reading::carried_in))]
 pub(crate) fn carried_in(service: Service, octets: &[u8]) -> Result<&[u8], IsduFault>
@@ -95,7 +95,7 @@ pub(crate) fn carried_in(service: Service, octets: &[u8]) -> Result<&[u8], IsduF
     Ok(carried)
 }
 
-// The octets between the count and CHKPDU.
+// The octets between the length and CHKPDU.
 fn enclosed(octets: &[u8]) -> &[u8]
     requires { 1 < length octets.now }
     ensures { result.now ≡ enclosed octets.now }
@@ -107,7 +107,7 @@ fn enclosed(octets: &[u8]) -> &[u8]
     }
 }
 
-// Whether the octets are as many as they state.
+// Whether the number of octets is the one that they state.
 fn is_counted(octets: &[u8]) -> bool
     requires { 0 < length octets.now }
     ensures { result ≡ is_counted octets.now }
@@ -131,7 +131,7 @@ pub(crate) fn isdu(service: Service, address: &[u8], values: &[u8]) -> ArrayVec<
     octets
 }
 
-// How an ISDU begins that carries so many octets.
+// The header of an ISDU that carries this number of octets.
 fn header(service: Service, carried: usize) -> ArrayVec<u8, ISDU_OCTETS>
     requires { carried ≤ CARRIED_OCTETS }
     ensures { Begins service (length result.items + carried + 1) result.items }

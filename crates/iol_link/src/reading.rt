@@ -1,4 +1,4 @@
-//! Octets to messages.
+//! Octets are read as messages.
 
 ghost use Rattle.std.specs.Prelude.{◌≡◌, ◌≤◌, ℕ, length, Ok, IfOk, IsTrue};
 ghost use Rattle.std.specs.Result.{result_err};
@@ -18,7 +18,7 @@ use arrayvec::ArrayVec;
 
 /// Reads the octets of one request, in any index form (IO-Link V1.1, ISDU).
 ///
-/// The faults are judged in the order of `IsduFault`, and the first is answered.
+/// The faults are checked in the order of `IsduFault`, and the first one is returned.
 pub fn read_request(octets: &[u8]) -> Result<Request, IsduFault>
     ensures found { IfOk result (IsRequest octets.now) }
     ensures only { (request : Request) → IsRequest octets.now request → result ≡ Ok request }
@@ -29,7 +29,7 @@ pub fn read_request(octets: &[u8]) -> Result<Request, IsduFault>
 
 /// Reads the octets of one answer (IO-Link V1.1, ISDU).
 ///
-/// The faults are judged in the order of `IsduFault`, and the first is answered.
+/// The faults are checked in the order of `IsduFault`, and the first one is returned.
 pub fn read_answer(octets: &[u8]) -> Result<Answer, IsduFault>
     ensures found { IfOk result (IsAnswer octets.now) }
     ensures only { (answer : Answer) → IsAnswer octets.now answer → result ≡ Ok answer }

@@ -6,14 +6,15 @@ ghost use Rattle.iol_link.specs.Reading.{index_in, subindex_in};
 
 use crate::messages::DATA_OCTETS;
 
-// What a request wants of an object.
+// The kind of access to an object that a request makes.
 #[derive(Clone, Copy)]
 pub(crate) enum Access {
     Read,
     Write,
 }
 
-// How a request states an Index and a Subindex. A form without Subindex means Subindex 0.
+// The forms in which a request gives an Index and a Subindex. A form without a Subindex means
+// Subindex 0.
 #[derive(Clone, Copy)]
 pub(crate) enum IndexForm {
     Index8,
@@ -21,7 +22,7 @@ pub(crate) enum IndexForm {
     Index16Subindex,
 }
 
-// The sign of a response: it was done (+) or refused (-).
+// The sign of a response: the request was carried out (+) or refused (-).
 #[derive(Clone, Copy)]
 pub(crate) enum Sign {
     Plus,
@@ -36,7 +37,8 @@ pub(crate) enum Service {
 }
 
 impl Service {
-    // The service of an I-Service, 0 to 15, or none where it is reserved or No Service.
+    // The service with this I-Service, 0 to 15, or `None` if the I-Service is reserved or No
+    // Service.
     #[tactic(auto, unfolding(crate::specs::Service::service_at))]
     pub(crate) fn of_code(code: u8) -> Option<Service>
         ensures { result ≡ service_at code }
@@ -75,7 +77,8 @@ impl Service {
         }
     }
 
-    // Whether an ISDU of this service carries so many octets between its count and CHKPDU.
+    // Whether an ISDU of this service may carry this number of octets between its length and
+    // CHKPDU.
     pub(crate) fn carries(self, count: usize) -> bool
         ensures { result ≡ carries self count }
     {
@@ -92,7 +95,7 @@ impl Service {
 }
 
 impl IndexForm {
-    // How many octets an address takes in this form.
+    // The number of octets of an address in this form.
     pub(crate) fn address_count(self) -> usize
         ensures address { result ≡ address_count self }
         ensures within { result ≤ 3 }

@@ -1,4 +1,4 @@
-//! Whether a device is the one that a port wants.
+//! Checks whether a device is the one that its port is configured for.
 ghost use Rattle.std.specs.Prelude.{◌≡◌};
 ghost use Rattle.std.specs.Result.{result_err};
 ghost use Rattle.iol_link.specs.Validation.{ident_fault};
@@ -10,25 +10,26 @@ use thiserror::Error;
 // The RevisionID of V1.1.
 const REVISION_V11: u8 = 0x11;
 
-/// Why a device is not the one that a port wants. The causes are judged in this order.
+/// The reasons why a device is not the one that its port is configured for, in the order of the checks.
 #[derive(Clone, Copy, Debug, PartialEq, Eq, Error)]
 pub enum IdentFault {
-    /// Another VendorID.
+    /// The VendorID differs.
     #[error("another vendor")]
     Vendor,
-    /// Another DeviceID.
+    /// The DeviceID differs.
     #[error("another device")]
     Device,
-    /// A RevisionID below V1.1, where validation 2, 3 or 4 is configured.
+    /// The RevisionID is below V1.1, and validation 2, 3 or 4 is configured.
     #[error("a revision below V1.1")]
     Revision,
-    /// No ISDU support, where validation 3 or 4 is configured.
+    /// The device does not support ISDUs, and validation 3 or 4 is configured.
     #[error("no ISDU support")]
     NoIsdu,
 }
 
-/// Whether the device with this page is the one that a port with this configuration wants (IO-Link V1.1, port
-/// configuration, Validation&Backup). Under NoCheck each is. The port's mode is not looked at.
+/// Checks whether the device with this page is the one that this configuration requires (IO-Link V1.1, port
+/// configuration, Validation&Backup). Under NoCheck every device is accepted. The mode of the port is
+/// ignored.
 pub fn validate(config: &PortConfig, page: &Page) -> Result<(), IdentFault>
     ensures { result_err result ≡ ident_fault config.now page.now }
 {

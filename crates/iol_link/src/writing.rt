@@ -1,4 +1,4 @@
-//! Messages to octets.
+//! Messages are written as octets.
 
 ghost use Rattle.std.specs.Prelude.{◌≡◌, ◌≤◌, ◌∷◌, [], ◌++◌, length};
 ghost use Rattle.iol_link.specs.Isdu.{IsShortestRequest, IsAnswer, IsIsduOf};
@@ -51,7 +51,7 @@ pub fn write_answer(answer: &Answer) -> ArrayVec<u8, ISDU_OCTETS>
     }
 }
 
-// The octet of Device busy.
+// The single octet of Device busy.
 fn device_busy() -> ArrayVec<u8, ISDU_OCTETS>
     ensures { result.items ≡ DEVICE_BUSY ∷ [] }
 {
@@ -60,7 +60,7 @@ fn device_busy() -> ArrayVec<u8, ISDU_OCTETS>
     octets
 }
 
-// The shortest form that fits an index and a subindex.
+// The shortest form that fits this index and subindex.
 fn shortest_form(index: u16, subindex: u8) -> IndexForm
     ensures { result ≡ shortest_form index subindex }
 {
@@ -73,7 +73,7 @@ fn shortest_form(index: u16, subindex: u8) -> IndexForm
     }
 }
 
-// The request, in the shortest form.
+// The request in its shortest form.
 fn shortest_request(
     access: Access,
     index: u16,

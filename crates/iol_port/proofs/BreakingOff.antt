@@ -94,7 +94,7 @@ ticket_breaks wants heard was number page ticket.Waiting = tt
 ticket_breaks wants heard was number page ticket.Durable = tt
 ticket_breaks wants heard was number page ticket.Unsure = tt
 
--- what comes of what was wanted
+-- any outcome of what was wanted
 comes_breaks : (port : ℕ) (started : Option ℕ) (requested : Bool) (stage : Stage) (heard : Input) → ComesOf (wanted port stage) heard
     → Breaks (wanted port stage) heard stage
     (fed (machine_at port started requested (after_action stage)) heard).stage
@@ -159,7 +159,7 @@ out_breaks : (wants : Wanted) (said : Input) (was stage : Stage) (heard : Result
 out_breaks wants said was (Uploading grant page upload) heard new out = subst (Breaks wants said was) (sym out.1) tt
 out_breaks wants said was stage heard new out = absurd out
 
--- and so where memory ran out
+-- the same if memory ran out
 fed_breaks : (old new : PortValue) (heard : Input) → ComesOf (wanted old.port old.stage) heard
     → IsFed (at_stage old (after_action old.stage)) heard new
     → Breaks (wanted old.port old.stage) heard old.stage new.stage
@@ -181,7 +181,7 @@ failed_breaks old new wants heard holder why happens returns =
     (fed_breaks old new heard (subst (λ w. ComesOf w heard) happens.0 happens.1) happens.2) in
     subst (Breaks wants heard old.stage) returns breaks
 
--- ---- where the core took the permit
+-- ---- if the core took the permit
 
 refused : (port : ℕ) (started : Option ℕ) (requested : Bool) (stage : Stage) (why : FinishFault)
     → ComesOf (wanted port stage) (input.Reply (reply.FinishedUpload (Err why)))

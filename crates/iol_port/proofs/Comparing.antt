@@ -44,7 +44,7 @@ fields_are : (vendor vendors device devices revision revisions cycle cycles : �
     → page_with vendor device revision cycle isdu ≡ page_with vendors devices revisions cycles isdus
 fields_are vendor vendors device devices revision revisions cycle cycles isdu isdus first second third fourth fifth = cc
 
--- pages that say the same are one page
+-- pages that are the same in every field are one page
 pages_are : (one other : PageValue) → same_page one other ≡ true → one ≡ other
 pages_are one other is =
     let fourth = both _ (same_flag one.has_isdu other.has_isdu) is in

@@ -1,4 +1,4 @@
--- What each decision says of a validation, a device and a stored set; one alone of them is true.
+-- What each decision says of a validation, a device and a stored set; exactly one of them is true.
 use Rattle.std.proofs.Common.{◌≡◌, ◌⊎◌, inl, inr, ℕ, Bool, true, false, if◌then◌else◌, refl, ap, subst, arith}
 use Rattle.std.proofs.lemmas.Bool.Decides.{nat_tests}
 use Rattle.std.specs.Prelude.{Option, Some, None, is_none, ◌==◌, ◌↔◌}

@@ -1,4 +1,4 @@
--- What holds of a machine after an exchange outside of a transfer, by its history.
+-- What holds of a machine after an exchange outside a transfer, by its history.
 use Rattle.std.proofs.Common.{◌≡◌, ℕ, Bool, true, false, if◌then◌else◌, nat_lt, List, [], ◌∷◌, refl, sym, ap, ◌∙◌}
 use Rattle.std.specs.Prelude.{Result, Ok, ◌==◌, length, slice_index}
 use Rattle.iol_link.specs.Reading.{answer_of}

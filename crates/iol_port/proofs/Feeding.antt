@@ -1,4 +1,4 @@
--- A machine that is fed, also where memory runs out.
+-- A machine that is fed, also if memory runs out.
 use Rattle.std.proofs.Common.{ℕ, sym, subst, inl, inr}
 use Rattle.arrayvec.specs.ArrayVec.{ArrayVec}
 use Rattle.iol_link.specs.Reading.{answer_of}
@@ -8,7 +8,7 @@ use Rattle.iol_port.specs.Stage.{Stage, PortValue}
 use Rattle.iol_port.specs.declared.action.Input.{Input}
 use Rattle.iol_port.specs.declared.action.Input.TheVariants as input
 
--- what holds after what was heard, and where memory ran out at an answer, holds of the machine that was fed
+-- what holds after an input, and also if memory ran out at an answer, holds of the machine that was fed
 pub fed_is : (P : PortValue → Type 0) (old new : PortValue) (heard : Input) → IsFed old heard new → P (fed old heard)
     → ((octets : ArrayVec ℕ) (stage : Stage) → RunsOut old.stage (answer_of octets.items) stage → P (at_stage old stage)) → P new
 fed_is P old new (input.Octets octets) (inl same) whole out = subst P (sym same) whole

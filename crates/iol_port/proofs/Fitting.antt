@@ -1,4 +1,4 @@
--- What comes of what a machine wants fits, and no permit is out between two happenings.
+-- Any outcome of what a machine wants fits, and no permit is with the core between two happenings.
 use Rattle.std.proofs.Common.{◌≡◌, ℕ, true, refl, sym, subst}
 use Rattle.std.specs.Prelude.{Result, Ok, Err}
 use Rattle.iol_types.specs.DataSet.{SetValue}
@@ -28,7 +28,7 @@ hands_back grant set (Err (finish.QueueFull permit own)) is back = started-back 
 hands_back grant set (Err (finish.Exhausted permit own)) is back = tt
 hands_back grant set (Err (finish.Memory permit own)) is back = tt
 
--- what comes of what a stage wants is what it awaits
+-- any outcome of what a stage wants is what it awaits
 pub fits : (port : ℕ) (stage : Stage) (heard : Input) → IsStage stage → is_at_hand stage ≡ true → ComesOf (wanted port stage) heard
     → Fits (after_action stage) heard
 fits port (Settled own) input.Wake holds hand comes = refl

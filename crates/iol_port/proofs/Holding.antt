@@ -1,4 +1,4 @@
--- A permit that is out is held by its machine, or is with the core.
+-- A permit that was given is held by its machine, or is with the core.
 use Rattle.std.proofs.Common.{◌≡◌, ℕ, Bool, true, false, if◌then◌else◌, nat_lt, refl, ap, ◌∙◌, subst}
 use Rattle.std.specs.Prelude.{Option, Some, None, Result, Ok, Err, ◌&&◌, ◌==◌, not, length}
 use Rattle.iol_types.specs.Config.{is_manual, restores}
@@ -86,7 +86,7 @@ download_holds port page download (Ok said) = by (sent download said)
     by Done = refl
     by (Ends why) = refl
 
--- where a machine goes it holds nothing
+-- a machine that continues holds no permit
 abbrev pub GoesFree : Next → Type 0
 GoesFree (To stage) = held_by stage ≡ None
 GoesFree (Start work) = Unit {0}

@@ -48,7 +48,7 @@ use Rattle.iol_port.specs.Heard.{page_heard, paged, settled_with, found_by, judg
 use Rattle.iol_port.specs.Heard.{upload_begun, download_begun, upload_finished, ticket_told, lost}
 use Rattle.iol_port.proofs.Feeding.{fed_is}
 
--- no permit is with the core: this is said of a stage, and of where a machine goes
+-- no permit is with the core, at a stage and after a machine continues
 abbrev pub IsAtHand : Stage → Type 0
 IsAtHand stage = is_at_hand stage ≡ true
 
@@ -242,12 +242,12 @@ comes_by port started requested (Returning (held.Download permit) own) (input.Re
 comes_by port started requested (Returning (held.Download permit) own) heard hand comes = absurd comes
 comes_by port started requested (Returned transfer own) heard hand comes = absurd cc
 
--- what comes of what was wanted leaves no permit with the core
+-- any outcome of what was wanted leaves no permit with the core
 comes_hand : (value : PortValue) (heard : Input) → IsAtHand value.stage → ComesOf (wanted value.port value.stage) heard
     → IsAtHand (fed (at_stage value (after_action value.stage)) heard).stage
 comes_hand value heard hand comes = comes_by value.port value.started_revision value.upload_requested value.stage heard hand comes
 
--- and so does the machine that heard it, also where memory ran out
+-- and so does the machine that was fed it, also if memory ran out
 pub fed_hand : (old new : PortValue) (heard : Input) → IsAtHand old.stage → ComesOf (wanted old.port old.stage) heard
     → IsFed (at_stage old (after_action old.stage)) heard new → IsAtHand new.stage
 fed_hand old new heard hand comes is =

@@ -41,7 +41,7 @@ pub record IsFound (found : FoundDevice) (history : List Happening) : Type 0 whe
   pub wanted : ident_fault found.work.config found.page ≡ None
   pub said : last_work history ≡ Some found.work
 
--- a port that had this status settles so: it has it still, or there is a reason
+-- a port that had this status settles so: the status is the same, or there is a reason
 abbrev pub Lands : PortStatus → List Happening → Rest → Type 0
 Lands was history own = (status_at_rest own ≡ was) ⊎ IsJudged own history
 
@@ -176,7 +176,7 @@ pub found_raised : (found : FoundDevice) (code : ℕ) (before : List Happening) 
 found_raised found code before is =
     record { conversation = is.conversation; shown = is.shown; manual = is.manual; wanted = is.wanted; said = is.said }
 
--- what the core has last said it has once said
+-- the work that the core returned last was once returned
 pub last_said : (work : Work) (history : List Happening) → last_work history ≡ Some work → HasSaid work history
 last_said work [] is = absurd cc
 last_said work (Raised code ∷ before) is = last_said work before is

@@ -39,7 +39,7 @@ moved_is port value (Start work) history is = by (is_manual work.config.mode)
     by true = is
     by false = tt
 
--- what comes of what was wanted
+-- any outcome of what was wanted
 comes_told : (port : ℕ) (started : Option ℕ) (requested : Bool) (stage : Stage) (heard : Input) (before : List Happening)
     → StageIs port before stage → IsAtHand stage
     → ComesOf (wanted port stage) heard
@@ -156,7 +156,7 @@ happens_is port before old new (Did wants heard) led is =
     let both = did_is port before old new heard led (subst (λ w. ComesOf w heard) is.0 is.1) is.2 is.3 in
     (both.0, subst (λ w. StageIs port (Did w heard ∷ before) new.stage) (sym is.0) both.1)
 
--- all that has happened
+-- the whole history
 pub led_is : (port : ℕ) (history : List Happening) (last : PortValue) → HasLed port history last → IsLed port history last
 led_is port [] last is = record {
   port_is = ap (λ (value : PortValue). value.port) is;

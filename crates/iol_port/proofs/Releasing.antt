@@ -1,4 +1,4 @@
--- A permit that a call of the core gives or takes is held, or out no more.
+-- A permit that a call of the core gives is held, and one that it takes is free again.
 use Rattle.std.proofs.Common.{◌≡◌, ℕ, Bool, true, false, if◌then◌else◌, List, [], ◌∷◌, refl, sym, ap, ◌∙◌, subst}
 use Rattle.std.specs.Prelude.{Option, Some, None, Result, Ok, Err, length}
 use Rattle.iol_types.specs.DataSet.{SetValue}
@@ -183,7 +183,7 @@ download_given start port vendor device checksum page before after (Err refusal.
 download_given start port vendor device checksum page before after (Err refusal.Same) is out given =
     ap (λ (core : CoreView). permit_at core port) given.1 ∙ out
 
--- a permit that is handed back is still out
+-- a permit that the core returns is still given to the port
 back_out : (port : ℕ) (grant permit : UploadGrant) (before after : CoreView) → HasOut before port (Some (held.Upload grant))
     → permit ≡ grant → after ≡ before
     → HasOut after port (Some (held.Upload permit))

@@ -1,4 +1,4 @@
--- A port becomes ready only where its device has what is stored for it.
+-- A port becomes ready only if its device has what is stored for it.
 use Rattle.std.proofs.Common.{◌≡◌, inl, inr, ℕ, Bool, true, false, if◌then◌else◌, List, [], ◌∷◌, refl, sym, ap, ◌∙◌, subst}
 use Rattle.std.specs.Prelude.{Option, Result}
 use Rattle.iol_types.specs.Config.{is_manual}
@@ -43,7 +43,7 @@ moved_written port was value (Start work) history is = by (is_manual work.config
     by true = tt
     by false = inr tt
 
--- what comes of what was wanted
+-- any outcome of what was wanted
 comes_written : (port : ℕ) (was : PortStatus) (started : Option ℕ) (requested : Bool) (stage : Stage) (heard : Input)
     (before : List Happening)
     → StageIs port before stage → WrittenIs port was before stage → IsAtHand stage → ComesOf (wanted port stage) heard
@@ -146,7 +146,7 @@ happens_written port was before old new (Did wants heard) led is happens =
     subst (λ w. WrittenIs port (status_of old.stage) (Did w heard ∷ before) new.stage) (sym happens.0)
     (did_written port was before old new heard led is (subst (λ w. ComesOf w heard) happens.0 happens.1) happens.2)
 
--- all that has happened
+-- the whole history
 written_is : (port : ℕ) (history : List Happening) (last : PortValue) → HasLed port history last
     → (was : PortStatus) × WrittenIs port was history last.stage
 written_is port [] last is = (

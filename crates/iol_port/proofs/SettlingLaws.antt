@@ -40,7 +40,7 @@ moved_known was value (Start work) history is = by (is_manual work.config.mode) 
     by true manual = (is, manual)
     by false manual = inr (inr (work, is, manual))
 
--- what comes of what was wanted
+-- any outcome of what was wanted
 comes_known : (was : PortStatus) (port : ℕ) (started : Option ℕ) (requested : Bool) (stage : Stage) (heard : Input)
     (before : List Happening)
     → KnownIs was before stage
@@ -123,7 +123,7 @@ happens_known was before old new (Did wants heard) is hand happens =
     subst (λ w. KnownIs (status_of old.stage) (Did w heard ∷ before) new.stage) (sym happens.0)
     (did_known was before old new heard is hand (subst (λ w. ComesOf w heard) happens.0 happens.1) happens.2)
 
--- all that has happened
+-- the whole history
 known_is : (port : ℕ) (history : List Happening) (last : PortValue) → HasLed port history last
     → (was : PortStatus) × KnownIs was history last.stage
 known_is port [] last is =

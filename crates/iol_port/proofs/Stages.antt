@@ -36,14 +36,14 @@ state_request = Read DATA_STORAGE STATE_PROPERTY
 abbrev pub checksum_request : Request
 checksum_request = Read DATA_STORAGE PARAMETER_CHECKSUM
 
--- State_Property is asked for, and was so many times answered Device busy
+-- State_Property is to be read, and the read was answered Device busy some number of times
 pub record AsksState (found : FoundDevice) (left : ℕ) (history : List Happening) : Type 0 where
   pub times : ℕ
   pub found_is : HasFound found (busy_times times state_request) history
   pub count : times + left ≡ MOST_REQUESTS
   pub more : 0 < left
 
--- Parameter_Checksum is asked for, behind State_Property
+-- Parameter_Checksum is to be read, after State_Property
 pub record AsksChecksum (found : FoundDevice) (property : PropertyValue) (left : ℕ) (history : List Happening) : Type 0 where
   pub front : List Exchange
   pub state : List ℕ

@@ -64,7 +64,7 @@ use Rattle.iol_port.specs.Calls.{Attend, BeginUpload, FinishUpload, AskTicket, B
 use Rattle.iol_port.proofs.Stages.{AsksUpload, IsWhole, AsksDownload, PagingIs}
 use Rattle.iol_port.proofs.Stages.{AttendingIs, StageIs}
 
--- where a machine goes, what holds there
+-- what holds after a machine continues
 abbrev pub NextIs : ℕ → List Happening → Next → Type 0
 NextIs port history (To stage) = StageIs port history stage
 NextIs port history (Start work) = last_work history ≡ Some work
@@ -98,7 +98,7 @@ open-closing same = cc
 goes-is : (one other : Sender) → GoesOn one ≡ GoesOn other → one ≡ other
 goes-is one other same = cc
 
--- what goes on is a step of the download
+-- a download that continues makes its next step
 pub sent_step : (download next : Sender) (said : Answer) → sent download said ≡ GoesOn next
     → IsDownloadStep download said download_step.More next
 sent_step download next answer.WriteOk goes = by download.sends goes refl

@@ -63,7 +63,7 @@ use Rattle.iol_port.proofs.Stages.{PagingIs, AttendingIs, ExchangingIs}
 use Rattle.iol_port.proofs.Telling.{Said, sent_step}
 use Rattle.iol_port.proofs.Written.{Writes, Rests, ReturnsTo, WrittenIs, NextWritten}
 
--- ---- exchanges outside of a transfer
+-- ---- exchanges outside a transfer
 
 again_written : (port : ℕ) (was : PortStatus) (history : List Happening) (left : ℕ) (next : ExchangeFor)
     → WrittenIs port was history (again left next)
@@ -133,7 +133,7 @@ upload_written port was history grant page upload (Ok said) = by (step upload sa
     by (Whole set) = tt
     by (Fault why) = tt
 
--- a download is done where its last request was answered (+)
+-- a download is done if its last request was answered (+)
 sent_last : (download : Sender) (said : Answer) → sent download said ≡ Done → (said ≡ answer.WriteOk) × (download.sends ≡ Closing)
 sent_last download answer.WriteOk ends = (refl, by download.sends ends)
   where

@@ -1,4 +1,4 @@
--- What is written to the device of a port at each stage, by the history, also where an event is raised.
+-- What is written to the device of a port at each stage, by the history, also if an event is raised.
 use Rattle.std.proofs.Common.{◌≡◌, ◌⊎◌, inl, ℕ, List, ◌∷◌, refl}
 use Rattle.iol_types.specs.DataSet.{SetValue}
 use Rattle.iol_link.specs.Page.{PageValue}

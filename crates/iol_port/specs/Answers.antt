@@ -1,4 +1,4 @@
--- What an answer of the device makes of a port.
+-- How a port continues after an answer of its device.
 use Rattle.std.specs.Prelude.{◌≡◌, ◌⊎◌, ℕ, ◌+◌, ◌-◌, ◌==◌, nat_lt, if◌then◌else◌, length, slice_index, Result, Ok, Err}
 use Rattle.iol_types.specs.DataSet.{SetValue}
 use Rattle.iol_link.specs.declared.messages.Answer.{Answer}
@@ -25,15 +25,15 @@ use Rattle.iol_port.specs.declared.stage.ExchangeFor.{ExchangeFor}
 use Rattle.iol_port.specs.declared.stage.ExchangeFor.TheVariants as exchange
 use Rattle.iol_port.specs.declared.stage.Held.TheVariants as held
 
--- a port has failed (own)
+-- the stage of a port that has failed (own)
 abbrev pub failed : PortFault → Stage
 failed why = Settled (rest.Failed why)
 
--- after Device busy, where a request may still be sent so many times: it is sent again, or this was the last time (own)
+-- after Device busy, if a request may still be sent `left` times: it is sent again, or the port fails after the last time (own)
 abbrev pub again : ℕ → ExchangeFor → Stage
 again left next = if nat_lt 1 left then Exchanging next else failed fault.Busy
 
--- after State_Property, one octet, was read of a device that was found (own)
+-- after State_Property, one octet, was read from a device that was found (own)
 abbrev pub state_read : FoundDevice → ℕ → Result Answer IsduFault → Stage
 state_read found left (Ok (answer.ReadOk octets)) =
     if length octets.items == 1
@@ -57,7 +57,7 @@ upload_ended page left (Ok answer.WriteOk) = Settled (rest.Ready page)
 upload_ended page left (Ok answer.Busy) = again left (exchange.EndingUpload page (left - 1))
 upload_ended page left other = failed (write_fault other)
 
--- after an exchange outside of a transfer; what DS_Break is answered is not looked at (own)
+-- after an exchange outside a transfer; the answer to DS_Break is ignored (own)
 abbrev pub exchanged : ExchangeFor → Result Answer IsduFault → Stage
 exchanged (exchange.ReadingState found left) heard = state_read found left heard
 exchanged (exchange.ReadingChecksum found property left) heard = checksum_read found property left heard
@@ -65,7 +65,7 @@ exchanged (exchange.EndingUpload page left) heard = upload_ended page left heard
 exchanged (exchange.Stopping storing) heard = failed fault.Stopped
 exchanged exchange.Yielding heard = Attending attend.Restarting
 
--- where an upload goes: on, to the filing of its set, or it is broken off (own)
+-- how an upload continues: with its next request, by filing its set, or it is broken off (own)
 abbrev pub uploaded : UploadGrant → PageValue → Outcome → Stage
 uploaded grant page (More upload) = Uploading grant page upload
 uploaded grant page (Whole set) = Filing grant page set
@@ -76,12 +76,12 @@ abbrev pub upload_answered : UploadGrant → PageValue → Machine → Result An
 upload_answered grant page upload (Ok heard) = uploaded grant page (step upload heard)
 upload_answered grant page upload (Err why) = Breaking (held.Upload grant) (of_isdu why)
 
--- an answer is to be kept, or makes an upload whole: memory is asked for (own)
+-- an answer needs memory, as it is to be kept or makes an upload whole (own)
 abbrev pub AsksMemory : Machine → Result Answer IsduFault → Type 0
 AsksMemory upload (Ok heard) = NeedsMemory upload.asks heard ⊎ ((set : SetValue) × (step upload heard ≡ Whole set))
 AsksMemory upload (Err why) = ⊥
 
--- what an answer makes of a download: it goes on, all is sent, or it ends in a fault (own)
+-- a download after an answer: it continues, all is sent, or it ends in a fault (own)
 pub data Sent : Type 0 where
   GoesOn : (download : Sender) → Sent
   Done : Sent
@@ -104,7 +104,7 @@ sent download (answer.WriteFault error additional) = Ends (transfer.Refused erro
 sent download (answer.ReadOk octets) = Ends transfer.Unexpected
 sent download (answer.ReadFault error additional) = Ends transfer.Unexpected
 
--- where a download goes: on, to the end of its permit, or it is broken off (own)
+-- how a download continues: with its next request, by returning its permit, or it is broken off (own)
 abbrev pub downloaded : ℕ → PageValue → Sent → Stage
 downloaded port page (GoesOn download) = Downloading port page download
 downloaded port page Done = Returning (held.Download port) (rest.Ready page)
@@ -114,7 +114,7 @@ abbrev pub download_answered : ℕ → PageValue → Sender → Result Answer Is
 download_answered port page download (Ok heard) = downloaded port page (sent download heard)
 download_answered port page download (Err why) = Breaking (held.Download port) (of_isdu why)
 
--- after an answer of the device; what DS_Break is answered is not looked at (own)
+-- after an answer of the device; the answer to DS_Break is ignored (own)
 abbrev pub answered : Stage → Result Answer IsduFault → Stage
 answered (Exchanging exchange_for) heard = exchanged exchange_for heard
 answered (Uploading grant page upload) heard = upload_answered grant page upload heard
@@ -122,7 +122,7 @@ answered (Downloading port page download) heard = download_answered port page do
 answered (Breaking held why) heard = Returning held (rest.Failed why)
 answered stage heard = stage
 
--- memory ran out where an answer asked for it: the upload is broken off (own)
+-- out of memory for an answer that needs it: the upload is broken off (own)
 abbrev pub RunsOut : Stage → Result Answer IsduFault → Stage → Type 0
 RunsOut (Uploading grant page upload) heard new = AsksMemory upload heard × (new ≡ Breaking (held.Upload grant) fault.Memory)
 RunsOut _ heard new = ⊥

@@ -1,4 +1,4 @@
--- What a port asks of the core, and what the core answers.
+-- The calls that a port makes of the core, and the core's replies.
 use Rattle.std.specs.Prelude.{◌≡◌, ℕ, None, Result, Ok, Err, IfOk}
 use Rattle.iol_types.specs.State.{check}
 use Rattle.iol_types.specs.DataSet.{SetValue, IsSet}
@@ -17,8 +17,8 @@ use Rattle.iol_port.specs.declared.call.CoreCall.TheVariants as core_call
 use Rattle.iol_port.specs.declared.call.Reply.{Reply}
 use Rattle.iol_port.specs.declared.call.Reply.TheVariants as reply
 
--- a call of the core, with what it is given. It asks what is to be done, whether a command is durable, or for a permit to
--- upload or to download. Or it hands back a permit to upload, with or without the set, or one to download (own)
+-- a call of the core, with its arguments. It asks for the port's work, whether a command is durable, or for a permit to
+-- upload or to download. Or it returns a permit to upload, with or without the set, or one to download (own)
 pub data Call : Type 0 where
   Attend : (port : ℕ) → Call
   BeginUpload : (port vendor device connection : ℕ) → Call
@@ -28,7 +28,7 @@ pub data Call : Type 0 where
   BeginDownload : (port vendor device checksum : ℕ) → Call
   EndDownload : (port : ℕ) → Call
 
--- the call that a value in memory is (own)
+-- a call in memory as contracts see it (own)
 abbrev pub call_of : CoreCall → Call
 call_of (core_call.Attend port) = Attend port
 call_of (core_call.BeginUpload port vendor device connection) = BeginUpload port vendor device connection
@@ -49,7 +49,7 @@ abbrev pub MayBeMade : Call → Type 0
 MayBeMade (FinishUpload grant set) = IsUnder grant set
 MayBeMade _ = Unit {0}
 
--- what comes back with a permit, where the core hands back both, is of the device that the permit names (own)
+-- a set that the core returns with a permit belongs to the device that the permit names (own)
 abbrev pub HandsBack : Result ℕ FinishFault → Type 0
 HandsBack (Err (finish.QueueFull permit set)) = IsUnder permit set.value
 HandsBack _ = Unit {0}
@@ -68,7 +68,7 @@ Replies (BeginDownload port vendor device checksum) old new (reply.BegunDownload
 Replies (EndDownload port) old new reply.EndedDownload = new ≡ without_download old port
 Replies _ old new _ = ⊥
 
--- a permit to upload is for what was asked: a port, and a device on a connection (own)
+-- a permit to upload is for what the call named: a port, and a device on a connection (own)
 pub record IsGrantFor (port vendor device connection : ℕ) (grant : UploadGrant) : Type 0 where
   pub port_is : grant.port ≡ port
   pub vendor_is : grant.vendor ≡ vendor
@@ -82,7 +82,7 @@ pub record IsBegunFor (port vendor device : ℕ) (begun : DownloadBegun) : Type 
   pub vendor_is : begun.set.value.vendor ≡ vendor
   pub device_is : begun.set.value.device ≡ device
 
--- where an upload is not finished and its permit comes back, these are the permit and the set that were handed in (own)
+-- if the core returns the permit and the set of a filed upload, they are the ones that it was given (own)
 abbrev pub IsHandedBack : UploadGrant → SetValue → Result ℕ FinishFault → Type 0
 IsHandedBack grant set (Ok ticket) = Unit {0}
 IsHandedBack grant set (Err finish.Stopped) = Unit {0}
@@ -102,7 +102,7 @@ IsReplyTo (BeginDownload port vendor device checksum) (reply.BegunDownload begun
 IsReplyTo (EndDownload port) reply.EndedDownload = Unit {0}
 IsReplyTo _ _ = ⊥
 
--- the Store of a set that the core takes passes in its live state (own)
+-- the Store of a set that the core takes is legal in its live state (own)
 abbrev pub Passes : Call → CoreView → Reply → Type 0
 Passes (FinishUpload grant set) old (reply.FinishedUpload (Ok ticket)) = check (live old) (store_of grant set) ≡ None
 Passes _ old _ = Unit {0}

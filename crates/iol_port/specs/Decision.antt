@@ -1,4 +1,4 @@
--- What a port does with the parameters of a device that it wants.
+-- What a port does with the parameters of a device that fits its configuration.
 use Rattle.std.specs.Prelude.{ℕ, ◌==◌, ◌&&◌, not, Bool, true, false, if◌then◌else◌, Option, Some, None, is_none}
 use Rattle.iol_types.specs.Config.{restores, backs_up}
 use Rattle.iol_types.specs.declared.config.Validation.{Validation}
@@ -18,7 +18,7 @@ has_checksum None checksum = false
 has_checksum (Some stored) checksum = stored == checksum
 
 -- what a port does, from its validation, the state, flag and checksum of the device, and the checksum of the durable set,
--- if there is one. The first line that fits counts. First, nothing is kept for the device, or its Data Storage is locked.
+-- if there is one. The first case that applies counts. First, nothing is kept for the device, or its Data Storage is locked.
 -- Under Backup and Restore then: no set is durable, the device asks for an upload, it has the set, or it has another.
 -- Under Restore: no set is durable, the device has the set, or it has another (own)
 abbrev pub decide : Validation → State → Bool → ℕ → Option ℕ → Decision

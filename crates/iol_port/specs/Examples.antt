@@ -1,4 +1,4 @@
--- The ports that examples speak of.
+-- The ports of the worked examples.
 use Rattle.std.specs.Prelude.{ℕ, Bool, true, Option, Some}
 use Rattle.iol_types.specs.Examples.{example_config}
 use Rattle.iol_link.specs.Examples.{example_page}
@@ -15,7 +15,7 @@ use Rattle.iol_port.specs.declared.stage.FoundDevice.{FoundDevice}
 abbrev pub example_work : Option ℕ → Work
 example_work checksum = record { config = example_config; revision = 1; checksum = checksum }
 
--- for worked examples: the page of the device that port 1 wants (own)
+-- for worked examples: the page of the device that port 1 is configured for (own)
 abbrev pub fitting_page : PageValue
 fitting_page = example_page 0x11 true
 

@@ -23,7 +23,7 @@ of_isdu isdu.WrongService = WrongService
 of_isdu isdu.Length = Length
 of_isdu isdu.Check = Check
 
--- the fault of a port for a transfer that ends in one (own)
+-- the fault of a port for a transfer that ends in a fault (own)
 abbrev pub of_transfer : TransferFault → PortFault
 of_transfer (transfer.Refused error additional) = Refused error additional
 of_transfer transfer.Unexpected = Unexpected
@@ -48,8 +48,8 @@ of_download download.Taken = Taken
 of_download download.Same = Same
 of_download download.Memory = Memory
 
--- the fault of a read whose answer is not what was to come: no answer, Device busy once too often, an answer (-), or an
--- answer to something else (own)
+-- the fault of a read whose answer is not the expected one: no answer, Device busy once too often, an answer (-), or an
+-- answer that does not fit the request (own)
 abbrev pub read_fault : Result Answer IsduFault → PortFault
 read_fault (Err why) = of_isdu why
 read_fault (Ok answer.Busy) = Busy
@@ -58,7 +58,7 @@ read_fault (Ok (answer.ReadOk values)) = Unexpected
 read_fault (Ok answer.WriteOk) = Unexpected
 read_fault (Ok (answer.WriteFault error additional)) = Unexpected
 
--- the fault of a write whose answer is not what was to come (own)
+-- the fault of a write whose answer is not the expected one (own)
 abbrev pub write_fault : Result Answer IsduFault → PortFault
 write_fault (Err why) = of_isdu why
 write_fault (Ok answer.Busy) = Busy

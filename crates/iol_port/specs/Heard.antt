@@ -1,4 +1,4 @@
--- What a port makes of what it hears.
+-- How a port continues after each input.
 use Rattle.std.specs.Prelude.{◌≡◌, ◌⊎◌, ℕ, ◌==◌, ◌&&◌, ◌||◌, not, Bool, true, false, if◌then◌else◌, Option, Some, None, Result, Ok, Err}
 use Rattle.iol_types.specs.Config.{is_manual, restores}
 use Rattle.iol_link.specs.Reading.{answer_of}
@@ -47,13 +47,13 @@ abbrev pub same_flag : Bool → Bool → Bool
 same_flag true flag = flag
 same_flag false flag = not flag
 
--- two pages say the same of a device, by all that is read of them (own)
+-- two pages are equal in every field that is read of them (own)
 abbrev pub same_page : PageValue → PageValue → Bool
 same_page one two =
     (one.vendor == two.vendor) && (one.device == two.device) && (one.revision == two.revision)
     && (one.min_cycle_time == two.min_cycle_time) && same_flag one.has_isdu two.has_isdu
 
--- a port settled with this page (own)
+-- a settled port keeps this page (own)
 abbrev pub settled_with : Rest → PageValue → Bool
 settled_with (rest.Ready own) page = same_page own page
 settled_with (rest.ReadyLocked own) page = same_page own page
@@ -61,14 +61,14 @@ settled_with (rest.ReadyEmpty own) page = same_page own page
 settled_with (rest.Mismatch why own) page = same_page own page
 settled_with _ page = false
 
--- a device that the port wants, by its page: its parameters are looked after where the validation says so (own)
+-- after a page that fits: the Data Storage is examined if the validation restores, or else the port is ready (own)
 abbrev pub found_by : Work → ℕ → PageValue → Stage
 found_by work connection page =
     if restores work.config.validation
     then Exchanging (exchange.ReadingState (record { work = work; page = page; connection = connection }) MOST_REQUESTS)
     else Settled (rest.Ready page)
 
--- a device is the one that the port wants, or it does not fit (own)
+-- after a page was checked against the configuration: the device fits, or it is a mismatch (own)
 abbrev pub judged : Work → ℕ → PageValue → Option IdentFault → Stage
 judged work connection page None = found_by work connection page
 judged work connection page (Some why) = Settled (rest.Mismatch why page)
@@ -82,8 +82,8 @@ abbrev pub paged : Stage → ℕ → PageValue → Next
 paged (Paging what) connection page = page_heard what connection page
 paged stage connection page = To stage
 
--- a settled port that is woken under the configuration that it settled under: off stays, a port with a device looks
--- whether it is still there, and any other starts (own)
+-- a settled port is woken under the configuration that it started under: off stays, a port with a device checks whether
+-- that is still there, and any other starts (own)
 abbrev pub resumed : Rest → Work → Next
 resumed rest.Off work = To (Settled rest.Off)
 resumed rest.Lost work = Start work
@@ -95,7 +95,7 @@ abbrev pub is_under : Option ℕ → ℕ → Bool
 is_under None revision = false
 is_under (Some started) revision = started == revision
 
--- what is decided of a device that was found (own)
+-- the stage after a decision on a device that was found (own)
 abbrev pub decided : FoundDevice → ℕ → Decision → Stage
 decided found checksum decision.Ready = Settled (rest.Ready found.page)
 decided found checksum decision.ReadyLocked = Settled (rest.ReadyLocked found.page)
@@ -103,7 +103,7 @@ decided found checksum decision.ReadyEmpty = Settled (rest.ReadyEmpty found.page
 decided found checksum decision.Upload = BeginningUpload found
 decided found checksum decision.Download = BeginningDownload found checksum
 
--- what was read of a device counts under the configuration that the port started under; under another it starts anew
+-- what was read of a device counts under the configuration that the port started under; under another it starts again
 -- (own)
 abbrev pub confirmed : FoundDevice → PropertyValue → ℕ → Work → Next
 confirmed found property checksum work =
@@ -111,7 +111,7 @@ confirmed found property checksum work =
     then To (decided found checksum (decide work.config.validation property.state property.flag checksum work.checksum))
     else Start work
 
--- after the core has said what is to be done; a port that is not there is off (own)
+-- after the core has returned the port's work; a port that is not there is off (own)
 abbrev pub attended : Option ℕ → Bool → AttendFor → Option Work → Next
 attended started requested what None = To (Settled rest.Off)
 attended started requested (attend.Waking own) (Some work) =
@@ -141,7 +141,7 @@ abbrev pub download_permitted : Stage → Result DownloadBegun DownloadFault →
 download_permitted (BeginningDownload found checksum) begins = download_begun found.page begins
 download_permitted stage begins = stage
 
--- after a set was filed: it waits to be durable; nothing more is taken; the port was configured anew; the queue is full and
+-- after a set was filed: it waits to be durable; nothing more is taken; the port was configured again; the queue is full and
 -- the set is filed again; or there is no number or no memory for it (own)
 abbrev pub upload_finished : PageValue → Result ℕ FinishFault → Stage
 upload_finished page (Ok ticket) = Storing ticket page
@@ -155,7 +155,7 @@ abbrev pub finished_upload : Stage → Result ℕ FinishFault → Stage
 finished_upload (Filed page) finished = upload_finished page finished
 finished_upload stage finished = stage
 
--- after the core has said whether a set is durable: the upload ends only then (own)
+-- after the core has said whether a set is durable: the upload ends only if it is (own)
 abbrev pub ticket_told : ℕ → PageValue → TicketState → Stage
 ticket_told number page ticket.Waiting = Storing number page
 ticket_told number page ticket.Durable = Exchanging (exchange.EndingUpload page MOST_REQUESTS)
@@ -180,7 +180,7 @@ replied started requested stage (reply.Ticket state) = To (told_ticket stage sta
 replied started requested stage (reply.BegunDownload begins) = To (download_permitted stage begins)
 replied started requested stage reply.EndedDownload = To (settled stage)
 
--- the device is lost: a port that holds a permit returns it, and nothing that was read is kept (own)
+-- after a loss: a port that holds a permit returns it, and nothing that was read is kept (own)
 abbrev pub lost : Stage → Stage
 lost (Paging what) = Settled rest.Lost
 lost (Exchanging what) = Settled rest.Lost
@@ -189,16 +189,16 @@ lost (Downloading port page download) = Returning (held.Download port) rest.Lost
 lost (Breaking holds why) = Returning holds rest.Lost
 lost stage = stage
 
--- a settled port is woken (own)
+-- the stage after a settled port is woken (own)
 abbrev pub woken : Stage → Stage
 woken (Settled own) = Attending (attend.Waking own)
 woken stage = stage
 
--- the first stage under a configuration: only IOL_MANUAL has a device to look after (own)
+-- the first stage under a configuration: only IOL_MANUAL has a device to work with (own)
 abbrev pub first_stage : Work → Stage
 first_stage work = if is_manual work.config.mode then Paging (page_for.Identifying work) else Settled rest.Off
 
--- the machine at another stage; the machine as it starts, which forgets that the device asked for an upload (own)
+-- the machine at another stage; the machine as it starts, which drops the device's request for an upload (own)
 abbrev pub at_stage : PortValue → Stage → PortValue
 at_stage value stage = machine_at value.port value.started_revision value.upload_requested stage
 
@@ -209,12 +209,12 @@ abbrev pub moved : PortValue → Next → PortValue
 moved value (To stage) = at_stage value stage
 moved value (Start work) = started value work
 
--- an event is kept where it is the device's request for an upload (standard, Data Storage object)
+-- an event is kept if it is the device's request for an upload (standard, Data Storage object)
 abbrev pub noted : PortValue → ℕ → PortValue
 noted value code =
     machine_at value.port value.started_revision (value.upload_requested || (code == UPLOAD_REQUEST)) value.stage
 
--- the machine after what it hears (own)
+-- the machine after an input (own)
 abbrev pub fed : PortValue → Input → PortValue
 fed value input.Wake = at_stage value (woken value.stage)
 fed value (input.Event code) = noted value code
@@ -223,7 +223,7 @@ fed value (input.Octets octets) = at_stage value (answered value.stage (answer_o
 fed value input.Lost = at_stage value (lost value.stage)
 fed value (input.Reply heard) = moved value (replied value.started_revision value.upload_requested value.stage heard)
 
--- the machine after what it heard: as above, or memory ran out at an answer that asked for it (own)
+-- the machine after an input: as above, or out of memory at an answer that needs it (own)
 abbrev pub IsFed : PortValue → Input → PortValue → Type 0
 IsFed old (input.Octets octets) new =
     (new ≡ fed old (input.Octets octets))
@@ -282,7 +282,7 @@ abbrev pub is_returned : Stage → Bool
 is_returned (Returned transfer own) = true
 is_returned _ = false
 
--- a reply is to the call that is out; what it hands back is of the device of its permit (own)
+-- a reply is to the call that was made; a set that it returns is of the device of its permit (own)
 abbrev pub FitsReply : Stage → Reply → Type 0
 FitsReply stage (reply.Attended work) = is_attending stage ≡ true
 FitsReply stage (reply.BegunUpload begins) = is_beginning_upload stage ≡ true
@@ -292,7 +292,7 @@ FitsReply stage (reply.Ticket state) = is_storing stage ≡ true
 FitsReply stage (reply.BegunDownload begins) = is_beginning_download stage ≡ true
 FitsReply stage reply.EndedDownload = is_returned stage ≡ true
 
--- what is heard is what is awaited; an event may come at any time (own)
+-- an input is what the stage awaits; an event may come at any time (own)
 abbrev pub Fits : Stage → Input → Type 0
 Fits stage input.Wake = is_settled stage ≡ true
 Fits stage (input.Event code) = Unit {0}

@@ -1,4 +1,4 @@
--- What the history of a port's machine tells of its transfers.
+-- What the history of a port's machine says about its transfers.
 use Rattle.std.specs.Prelude.{◌≡◌, ◌⊎◌, ℕ, false, true, List, [], ◌∷◌, ◌++◌, length, slice_index, Option, Some, None, Ok, Err}
 use Rattle.iol_types.specs.Config.{is_manual, restores}
 use Rattle.iol_types.specs.DataSet.{SetValue, IsSet}
@@ -36,13 +36,13 @@ use Rattle.iol_port.specs.declared.stage.Held.TheVariants as held
 use Rattle.iol_port.specs.declared.stage.Rest.{Rest}
 use Rattle.iol_port.specs.declared.stage.Rest.TheVariants as rest
 
--- these exchanges are some earlier ones, of which this holds, and one more, whose octets are an answer (own)
+-- these exchanges are earlier ones, of which this holds, and one more, whose octets are an answer (own)
 abbrev pub AndThen : (List Exchange → Type 0) → Request → List ℕ → List Exchange → Type 0
 AndThen Earlier request octets conversation =
     (earlier : List Exchange) × (answer : Answer) × Earlier earlier × (answer_of octets ≡ Ok answer)
     × (conversation ≡ earlier ++ record { request = request; answer = answer } ∷ [])
 
--- what the core has last said is to be done (own)
+-- the work that the core returned last (own)
 abbrev pub last_work : List Happening → Option Work
 last_work [] = None
 last_work (Did wants (input.Reply (reply.Attended work)) ∷ before) = work
@@ -60,8 +60,8 @@ HasShown connection page conversation (Did (AnswerTo request) (input.Octets octe
 HasShown connection page conversation (Did wants (input.Reply heard) ∷ before) = HasShown connection page conversation before
 HasShown connection page conversation (Did wants heard ∷ before) = ⊥
 
--- the last permit to upload that was given is this one, for what was asked. Since then the device was not lost, nothing
--- else was asked of the core but whether the queue has room, and these are the exchanges with the device (own)
+-- the last permit to upload that was given is this one, for what was asked. Since then the device was not lost, the core was
+-- called only to file a set that found the queue full, and these are the exchanges with the device (own)
 abbrev pub HasUploaded : ℕ → UploadGrant → List Exchange → List Happening → Type 0
 HasUploaded port grant conversation [] = ⊥
 HasUploaded port grant conversation (Raised code ∷ before) = HasUploaded port grant conversation before
@@ -96,8 +96,8 @@ HasFiled port number (Did wants (input.Reply (reply.FinishedUpload (Ok given))) 
     × HasUploaded port grant conversation before × IsFinished grant.vendor grant.device conversation set)
 HasFiled port number (Did wants heard ∷ before) = ⊥
 
--- the core has said that a finished upload which was filed is durable, and since then DS_UploadEnd alone was sent, and
--- answered Device busy (own)
+-- the core has said that a filed, finished upload is durable, and since then only DS_UploadEnd was sent, and answered
+-- Device busy (own)
 abbrev pub IsDurable : ℕ → List Happening → Type 0
 IsDurable port [] = ⊥
 IsDurable port (Raised code ∷ before) = IsDurable port before
@@ -107,8 +107,8 @@ IsDurable port (Did wants (input.Octets octets) ∷ before) =
     (wants ≡ AnswerTo (commanded command.UploadEnd)) × (answer_of octets.items ≡ Ok Busy) × IsDurable port before
 IsDurable port (Did wants heard ∷ before) = ⊥
 
--- a device was found: its page is the last that was read, on its connection, with these exchanges since, and it is wanted
--- by what the core has last said is to be done (own)
+-- a device was found: its page is the last that was read, on its connection, with these exchanges since, and it fits the
+-- work that the core returned last (own)
 pub record HasFound (found : FoundDevice) (conversation : List Exchange) (history : List Happening) : Type 0 where
   pub shown : HasShown found.connection found.page conversation history
   pub said : last_work history ≡ Some found.work
@@ -127,16 +127,16 @@ pub record HasExamined (found : FoundDevice) (property : PropertyValue) (checksu
   pub four : length sum ≡ 4
   pub checksum_is : checksum ≡ number_of sum
 
--- a device was found and examined, and then the core said that this is to be done, under the revision for which the device
--- was found: from these it is decided so (own)
+-- a device was found and examined, and then the core returned this work, under the revision for which the device was found:
+-- these lead to this decision (own)
 pub record IsConfirmed (decision : Decision) (found : FoundDevice) (checksum : ℕ) (work : Work) (before : List Happening) : Type 0 where
   pub property : PropertyValue
   pub examined : HasExamined found property checksum before
   pub revision : found.work.revision ≡ work.revision
   pub decided : decide work.config.validation property.state property.flag checksum work.checksum ≡ decision
 
--- the last that happened, events apart, is that the core said what is to be done with a device that was examined, and it was
--- decided so (own)
+-- the last happening, apart from events, is that the core returned the work after a device was examined, and this was the
+-- decision (own)
 abbrev pub IsDecided : Decision → FoundDevice → ℕ → List Happening → Type 0
 IsDecided decision found checksum [] = ⊥
 IsDecided decision found checksum (Raised code ∷ before) = IsDecided decision found checksum before
@@ -153,7 +153,7 @@ held_by (Breaking holder fault) = Some holder
 held_by (Returning holder own) = Some holder
 held_by _ = None
 
--- the page of the device with which a port is settled, if it is settled with one (own)
+-- the page that a settled port keeps, if it keeps one (own)
 abbrev pub page_at : Rest → Option PageValue
 page_at rest.Off = None
 page_at rest.Lost = None
@@ -163,19 +163,19 @@ page_at (rest.ReadyLocked page) = Some page
 page_at (rest.ReadyEmpty page) = Some page
 page_at (rest.Mismatch why page) = Some page
 
--- after a loss a port is settled as lost, or it returns the permit that it held and is then; nothing else is kept (own)
+-- after a loss a port is settled as lost, or it first returns the permit that it held; nothing else is kept (own)
 abbrev pub IsLostWith : Option Held → Stage → Type 0
 IsLostWith None stage = stage ≡ Settled rest.Lost
 IsLostWith (Some holder) stage = stage ≡ Returning holder rest.Lost
 
--- the core has once said that this is to be done (own)
+-- the core has once returned this work (own)
 abbrev pub HasSaid : Work → List Happening → Type 0
 HasSaid work [] = ⊥
 HasSaid work (Did wants (input.Reply (reply.Attended (Some own))) ∷ before) = (own ≡ work) ⊎ HasSaid work before
 HasSaid work (latest ∷ before) = HasSaid work before
 
--- the device with this page is the one that the port wants, on its connection since: it was wanted by what the core had said
--- then, and what it has last said is under the same revision (own)
+-- the device with this page fits, on its connection since: it fitted the work that the core had returned then, and the last
+-- work has the same revision (own)
 pub record IsKnown (page : PageValue) (history : List Happening) : Type 0 where
   pub connection : ℕ
   pub conversation : List Exchange
@@ -188,7 +188,7 @@ pub record IsKnown (page : PageValue) (history : List Happening) : Type 0 where
   pub said : last_work history ≡ Some last
   pub revision : work.revision ≡ last.revision
 
--- the device with this page is, for this cause, not the one that the port wants by what the core has last said (own)
+-- the device with this page does not fit, for this cause, the work that the core returned last (own)
 pub record IsMismatched (why : IdentFault) (page : PageValue) (history : List Happening) : Type 0 where
   pub connection : ℕ
   pub work : Work
@@ -197,12 +197,12 @@ pub record IsMismatched (why : IdentFault) (page : PageValue) (history : List Ha
   pub fault : ident_fault work.config page ≡ Some why
   pub said : last_work history ≡ Some work
 
--- the core has last said that the port is not there, or that it is not IOL_MANUAL (own)
+-- the core has last said that the port is not there, or not IOL_MANUAL (own)
 abbrev pub HasNoDevice : List Happening → Type 0
 HasNoDevice history = (last_work history ≡ None) ⊎ ((work : Work) × (last_work history ≡ Some work) × (is_manual work.config.mode ≡ false))
 
 -- a port settles so for its reason: off for what the core has said, mismatch for a fault of the page, ready for a page that
--- is wanted (own)
+-- fits (own)
 abbrev pub IsJudged : Rest → List Happening → Type 0
 IsJudged rest.Off history = HasNoDevice history
 IsJudged rest.Lost history = Unit {0}
@@ -212,11 +212,11 @@ IsJudged (rest.ReadyLocked page) history = IsKnown page history
 IsJudged (rest.ReadyEmpty page) history = IsKnown page history
 IsJudged (rest.Mismatch why page) history = IsMismatched why page history
 
--- the core has last said what is to be done, and its validation restores nothing (own)
+-- the validation of the work that the core returned last restores nothing (own)
 abbrev pub RestoresNothing : List Happening → Type 0
 RestoresNothing history = (work : Work) × (last_work history ≡ Some work) × (restores work.config.validation ≡ false)
 
--- the last that happened, events apart, is that it was decided so of the device with this page, which was found and examined
+-- the last happening, apart from events, is this decision on the device with this page, which was found and examined
 -- (own)
 abbrev pub IsSoDecided : Decision → PageValue → List Happening → Type 0
 IsSoDecided is page history = (found : FoundDevice) × (checksum : ℕ) × IsDecided is found checksum history × (found.page ≡ page)
@@ -231,9 +231,9 @@ pub record HasRestored (port : ℕ) (page : PageValue) (history : List Happening
   pub vendor : set.vendor ≡ page.vendor
   pub device : set.device ≡ page.device
 
--- by the last that happened a port is ready with this page. The page was read, and nothing is to be restored; or it was
--- decided that the port is ready; or the permit was returned under which each write of a set was answered (+); or the
--- device answered (+) to DS_UploadEnd, and what it uploaded is durable (own)
+-- by the last happening a port is ready with this page. The page was read, and nothing is to be restored; or the decision
+-- was `Ready`; or the permit was returned under which each write of a set was answered (+); or the device answered (+) to
+-- DS_UploadEnd, and what it uploaded is durable (own)
 abbrev pub IsRestored : ℕ → PageValue → List Happening → Type 0
 IsRestored port page [] = ⊥
 IsRestored port page (Did wants (input.Page connection octets) ∷ before) = (page ≡ page_of octets) × RestoresNothing before

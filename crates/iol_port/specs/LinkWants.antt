@@ -1,4 +1,4 @@
--- What a port wants of its link.
+-- What a port needs from its link.
 use Rattle.iol_transfer.specs.declared.command.DsCommand.TheVariants as command
 use Rattle.iol_transfer.specs.Command.{commanded}
 use Rattle.iol_transfer.specs.Machine.{asked}
@@ -8,7 +8,7 @@ use Rattle.iol_port.specs.Wanted.{request_for}
 use Rattle.iol_port.specs.declared.action.Want.{Want}
 use Rattle.iol_port.specs.declared.action.Want.TheVariants as want
 
--- what a link is wanted for: the page, an answer, or nothing (own)
+-- what a port needs from its link: the page, an answer, or nothing (own)
 abbrev pub link_wanted : Stage → Want
 link_wanted (Paging page_for) = want.Page
 link_wanted (Exchanging exchange_for) = want.Answer (request_for exchange_for)

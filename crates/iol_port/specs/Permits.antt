@@ -8,22 +8,22 @@ use Rattle.iol_port.specs.declared.action.Input.TheVariants as input
 use Rattle.iol_port.specs.declared.stage.Held.{Held}
 use Rattle.iol_port.specs.declared.stage.Held.TheVariants as held
 
--- what the core has out for a permit that is held (own)
+-- what the core has recorded for a permit that is held (own)
 abbrev pub grant_of : Held → Grant
 grant_of (held.Upload grant) = Upload grant
 grant_of (held.Download port) = Download
 
--- a permit is one of this port (own)
+-- a permit belongs to this port (own)
 abbrev pub IsOf : ℕ → Held → Type 0
 IsOf port (held.Upload grant) = grant.port ≡ port
 IsOf port (held.Download own) = own ≡ port
 
--- of this port the core has that permit out which is held, and none where none is (own)
+-- the core has given this port exactly the permit that is held, if one is held (own)
 abbrev pub HasOut : CoreView → ℕ → Option Held → Type 0
 HasOut core port None = permit_at core port ≡ None
 HasOut core port (Some holder) = (permit_at core port ≡ Some (grant_of holder)) × IsOf port holder
 
--- a machine hears this from its link, or is woken (own)
+-- an input is from the link or the device, or wakes the machine: it is no reply of the core (own)
 abbrev pub IsOfLink : Input → Type 0
 IsOfLink (input.Reply reply) = ⊥
 IsOfLink _ = Unit {0}

@@ -1,4 +1,4 @@
--- Which statuses are one: a test, with the proof that it is true exactly where two are equal.
+-- The equality of statuses: a test, with the proof that it is true exactly if two are equal.
 use Rattle.std.specs.Prelude.{◌≡◌, ◌==◌, ℕ, zero, suc, Bool, List, [], ◌∷◌, find, refl}
 use Rattle.std.specs.Option.{unwrap_or}
 use Rattle.std.specs.Bool.{Decides}
@@ -20,7 +20,7 @@ mismatch_number ident.Device = 1
 mismatch_number ident.Revision = 2
 mismatch_number ident.NoIsdu = 3
 
--- a fault as numbers: its place, and what it says more (own)
+-- a fault as numbers: its place, and its codes (own)
 abbrev pub fault_numbers : PortFault → List ℕ
 fault_numbers (fault.Refused error additional) = 0 ∷ error ∷ additional ∷ []
 fault_numbers fault.Unexpected = 1 ∷ []
@@ -55,7 +55,7 @@ status_numbers status.Uploading = 8 ∷ []
 status_numbers status.Storing = 9 ∷ []
 status_numbers status.Downloading = 10 ∷ []
 
--- two statuses are one where their numbers are the same (own)
+-- two statuses are equal if their numbers are (own)
 abbrev pub same_status : PortStatus → PortStatus → Bool
 same_status one two = bytes_eq (status_numbers one) (status_numbers two)
 

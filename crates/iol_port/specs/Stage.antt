@@ -1,4 +1,4 @@
--- How far a port is.
+-- The stages of a port.
 use Rattle.std.specs.Prelude.{ℕ, Bool, List, Option, None, false}
 use Rattle.iol_types.specs.DataSet.{SetValue}
 use Rattle.iol_link.specs.Page.{PageValue}
@@ -18,8 +18,8 @@ use Rattle.iol_port.specs.declared.stage.ExchangeFor.{ExchangeFor}
 use Rattle.iol_port.specs.declared.stage.Held.{Held}
 use Rattle.iol_port.specs.declared.stage.Transfer.{Transfer}
 
--- how far a port is. It is settled, reads a page, asks what is to be done, or begins an upload or a download. It exchanges
--- messages with the device outside of a transfer. It uploads, files the set, has filed it, and waits until it is durable; or
+-- the stage of a port. It is settled, reads a page, asks for its work, or begins an upload or a download. It exchanges
+-- messages with the device outside a transfer. It uploads, files the set, has filed it, and waits until it is durable; or
 -- it downloads. It breaks a transfer off, returns a permit, or has returned it (own)
 pub data Stage : Type 0 where
   Settled : (rest : Rest) → Stage
@@ -37,8 +37,8 @@ pub data Stage : Type 0 where
   Returning : (held : Held) (rest : Rest) → Stage
   Returned : (transfer : Transfer) (rest : Rest) → Stage
 
--- the machine of a port: its port; the revision of the configuration that it last started under, or none if it is new;
--- whether the device has requested an upload since then; and its stage (own)
+-- the machine of a port: its port; the revision of the configuration that it last started under, none if it is new;
+-- whether the device has asked for an upload since it started; and its stage (own)
 pub record PortValue : Type 0 where
   pub port : ℕ
   pub started_revision : Option ℕ
@@ -54,18 +54,18 @@ machine_at port started requested stage =
 abbrev pub new_machine : ℕ → PortValue
 new_machine port = machine_at port None false (Settled Off)
 
--- what holds of a stage: an upload under way is one from the device of its permit, and so is the set that is filed (own)
+-- the invariant of a stage: a running upload is from the device of its permit, and so is the set that is filed (own)
 abbrev pub IsStage : Stage → Type 0
 IsStage (Uploading grant page upload) = (conversation : List Exchange) × IsSinceBegin grant.vendor grant.device conversation upload
 IsStage (Filing grant page set) = IsUnder grant set
 IsStage _ = Unit {0}
 
--- where a machine goes: to a stage, or it starts with new work (own)
+-- how a machine continues: at a stage, or it starts with new work (own)
 pub data Next : Type 0 where
   To : (stage : Stage) → Next
   Start : (work : Work) → Next
 
--- what holds of where a machine goes (own)
+-- the invariant of how a machine continues (own)
 abbrev pub IsNext : Next → Type 0
 IsNext (To stage) = IsStage stage
 IsNext (Start work) = Unit {0}

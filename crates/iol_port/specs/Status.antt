@@ -27,12 +27,12 @@ status_at_rest (rest.ReadyLocked page) = status.ReadyLocked
 status_at_rest (rest.ReadyEmpty page) = status.ReadyEmpty
 status_at_rest (rest.Mismatch fault page) = status.Mismatch fault
 
--- the status while a page is read: the old one where the page is compared (own)
+-- the status while a page is read: the old one if the page is compared (own)
 abbrev pub status_paging : PageFor → PortStatus
 status_paging (page.Comparing work rest) = status_at_rest rest
 status_paging (page.Identifying work) = status.Starting
 
--- the status while the core is asked what is to be done (own)
+-- the status while the core is asked for the port's work (own)
 abbrev pub status_attending : AttendFor → PortStatus
 status_attending (attend.Waking rest) = status_at_rest rest
 status_attending (attend.Confirming found property checksum) = status.Starting
@@ -43,7 +43,7 @@ abbrev pub status_uploaded : Bool → PortStatus
 status_uploaded true = status.Storing
 status_uploaded false = status.Uploading
 
--- the status during an exchange outside of a transfer (own)
+-- the status during an exchange outside a transfer (own)
 abbrev pub status_exchanging : ExchangeFor → PortStatus
 status_exchanging (exchange.ReadingState found left) = status.Starting
 status_exchanging (exchange.ReadingChecksum found property left) = status.Starting
@@ -56,7 +56,7 @@ abbrev pub status_during : Transfer → PortStatus
 status_during transfer.Upload = status.Uploading
 status_during transfer.Download = status.Downloading
 
--- what a permit is for (own)
+-- the transfer that a permit is for (own)
 abbrev pub transfer_of : Held → Transfer
 transfer_of (held.Upload permit) = transfer.Upload
 transfer_of (held.Download permit) = transfer.Download

@@ -1,11 +1,11 @@
--- How a port is, as a trace tells it.
+-- The status of a port, as a trace reports it.
 use Rattle.iol_port.specs.declared.fault.PortFault.{PortFault}
 use Rattle.iol_port.specs.declared.fault.PortFault.TheVariants as fault
 use Rattle.iol_port.specs.declared.status.PortStatus.{PortStatus}
 use Rattle.iol_port.specs.declared.status.PortStatus.TheVariants as status
 use Rattle.iol_core.specs.Statuses as trace
 
--- why a port has failed (own)
+-- why a port has failed, as a trace reports it (own)
 abbrev pub failure_told : PortFault → trace.Failure
 failure_told (fault.Refused error additional) = trace.Refused error additional
 failure_told fault.Unexpected = trace.Unexpected
@@ -26,7 +26,7 @@ failure_told fault.Same = trace.Same
 failure_told fault.Exhausted = trace.Exhausted
 failure_told fault.NoSet = trace.NoSet
 
--- the status of a port (own)
+-- the status of a port, as a trace reports it (own)
 abbrev pub status_told : PortStatus → trace.Status
 status_told status.Off = trace.Off
 status_told status.Lost = trace.Lost

@@ -1,4 +1,4 @@
--- A stage in memory, as what it is to a contract.
+-- A stage in memory, as contracts see it.
 use Rattle.iol_port.specs.Stage as port
 use Rattle.iol_port.specs.declared.stage.AwaitsAnswer.{AwaitsAnswer}
 use Rattle.iol_port.specs.declared.stage.AwaitsAnswer.TheVariants as answer
@@ -11,14 +11,14 @@ use Rattle.iol_port.specs.declared.stage.Stage.TheVariants as stage
 use Rattle.iol_port.specs.declared.stage.Next.{Next}
 use Rattle.iol_port.specs.declared.stage.Next.TheVariants as next
 
--- how far a port is that awaits an answer of its device (own)
+-- the stage of a port that awaits an answer of its device (own)
 abbrev pub awaiting_answer : AwaitsAnswer → port.Stage
 awaiting_answer (answer.Exchanging exchange_for) = port.Exchanging exchange_for
 awaiting_answer (answer.Uploading permit page upload) = port.Uploading permit page upload
 awaiting_answer (answer.Downloading permit page download) = port.Downloading permit page download
 awaiting_answer (answer.Breaking held fault) = port.Breaking held fault
 
--- how far a port is that awaits a reply of the core (own)
+-- the stage of a port that awaits a reply of the core (own)
 abbrev pub awaiting_core : AwaitsCore → port.Stage
 awaiting_core (core.Attending attend_for) = port.Attending attend_for
 awaiting_core (core.BeginningUpload found) = port.BeginningUpload found
@@ -27,12 +27,12 @@ awaiting_core (core.Filed page) = port.Filed page
 awaiting_core (core.Storing ticket page) = port.Storing ticket page
 awaiting_core (core.Returned transfer rest) = port.Returned transfer rest
 
--- how far a port is that is about to spend a permit (own)
+-- the stage of a port whose next call takes its permit (own)
 abbrev pub spending : SpendsPermit → port.Stage
 spending (permit.Filing grant page set) = port.Filing grant page set.value
 spending (permit.Returning held rest) = port.Returning held rest
 
--- how far a port in memory is (own)
+-- the stage of a port in memory (own)
 abbrev pub stage_of : Stage → port.Stage
 stage_of (stage.Settled rest) = port.Settled rest
 stage_of (stage.Page page_for) = port.Paging page_for
@@ -40,7 +40,7 @@ stage_of (stage.Answer awaited) = awaiting_answer awaited
 stage_of (stage.Core awaited) = awaiting_core awaited
 stage_of (stage.Permit spent) = spending spent
 
--- where a machine in memory goes (own)
+-- how a machine in memory continues (own)
 abbrev pub next_of : Next → port.Next
 next_of (next.To stage) = port.To (stage_of stage)
 next_of (next.Start work) = port.Start work

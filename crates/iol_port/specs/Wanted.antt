@@ -26,7 +26,7 @@ pub data Wanted : Type 0 where
   AnswerTo : (request : Request) → Wanted
   ReplyTo : (call : Call) → Wanted
 
--- the request of an exchange outside of a transfer (standard, Data Storage object)
+-- the request of an exchange outside a transfer (standard, Data Storage object)
 abbrev pub request_for : ExchangeFor → Request
 request_for (exchange.ReadingState found left) = Read DATA_STORAGE STATE_PROPERTY
 request_for (exchange.ReadingChecksum found property left) = Read DATA_STORAGE PARAMETER_CHECKSUM
@@ -39,7 +39,7 @@ abbrev pub return_of : Held → Call
 return_of (held.Upload permit) = AbandonUpload permit
 return_of (held.Download permit) = EndDownload permit
 
--- what a port wants next; nothing where it is settled, and where a permit is out with a call (own)
+-- what a port wants next; nothing if it is settled, or if the core has its permit in a call (own)
 abbrev pub wanted : ℕ → Stage → Wanted
 wanted port (Settled rest) = Nothing
 wanted port (Paging page_for) = ThePage
@@ -56,7 +56,7 @@ wanted port (Breaking held fault) = AnswerTo (commanded command.Break)
 wanted port (Returning held rest) = ReplyTo (return_of held)
 wanted port (Returned transfer rest) = Nothing
 
--- how far a port is once that is asked: a permit goes with the call that takes it (own)
+-- the stage of a port after its action: a call that takes a permit has taken it (own)
 abbrev pub after_action : Stage → Stage
 after_action (Filing grant page set) = Filed page
 after_action (Returning held rest) = Returned (transfer_of held) rest
@@ -69,7 +69,7 @@ wanted_of action.ReadPage = ThePage
 wanted_of (action.Exchange request) = AnswerTo request
 wanted_of (action.Ask call) = ReplyTo (call_of call)
 
--- this holds of the call, where an action asks the core (own)
+-- this holds of the call of the core that an action makes, if it makes one (own)
 abbrev pub IfAsks : Action → (Call → Type 0) → Type 0
 IfAsks (action.Ask call) holds = holds (call_of call)
 IfAsks action.Idle holds = Unit {0}

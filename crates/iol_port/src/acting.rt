@@ -19,7 +19,7 @@ use iol_link::Request;
 use iol_transfer::{DATA_STORAGE, DsCommand, PARAMETER_CHECKSUM, STATE_PROPERTY};
 use iol_types::PortId;
 
-// The next action, and the stage once it is taken.
+// Returns the next action, and the stage after it.
 pub(crate) fn act(port: PortId, stage: Stage) -> (Action, Stage)
     requires { IsStage (stage_of stage) }
     ensures wanted { wanted_of result.0 ≡ wanted port (stage_of stage) }
@@ -39,7 +39,7 @@ pub(crate) fn act(port: PortId, stage: Stage) -> (Action, Stage)
     }
 }
 
-// What a link is wanted for.
+// Returns what the port needs from its link.
 pub(crate) fn want(stage: &Stage) -> Want
     ensures { result ≡ link_wanted (stage_of stage.now) }
 {
@@ -50,7 +50,7 @@ pub(crate) fn want(stage: &Stage) -> Want
     }
 }
 
-// Asks the core for the reply that is awaited. A call that took a permit is made already: the port is idle.
+// Returns the call whose reply the stage awaits. A call that took a permit was made already, so the port is idle.
 fn ask(port: PortId, awaits: &AwaitsCore) -> Action
     ensures wanted { wanted_of result ≡ wanted port (awaiting_core awaits.now) }
     ensures may_be_made { IfAsks result MayBeMade }
@@ -68,7 +68,7 @@ fn ask(port: PortId, awaits: &AwaitsCore) -> Action
     }
 }
 
-// The call that takes the permit, and the reply that is awaited then.
+// Returns the call that takes the permit, and the reply to await after it.
 fn spend(spends: SpendsPermit) -> (CoreCall, AwaitsCore)
     requires { IsStage (spending spends) }
     ensures wanted { (port : ℕ) → wanted port (spending spends) ≡ ReplyTo (call_of result.0) }
@@ -87,7 +87,7 @@ fn spend(spends: SpendsPermit) -> (CoreCall, AwaitsCore)
     }
 }
 
-// The call for a permit to upload from a device that was found.
+// Returns the call for a permit to upload from this device.
 fn begin_upload(port: PortId, found: &FoundDevice) -> CoreCall
     ensures { call_of result ≡ BeginUpload port found.now.page.vendor found.now.page.device found.now.connection }
 {
@@ -99,7 +99,7 @@ fn begin_upload(port: PortId, found: &FoundDevice) -> CoreCall
     }
 }
 
-// The call for a permit to download to a device that was found, which has this checksum.
+// Returns the call for a permit to download to this device, which has this checksum.
 fn begin_download(port: PortId, found: &FoundDevice, checksum: u32) -> CoreCall
     ensures { call_of result ≡ BeginDownload port found.now.page.vendor found.now.page.device checksum }
 {
@@ -111,7 +111,7 @@ fn begin_download(port: PortId, found: &FoundDevice, checksum: u32) -> CoreCall
     }
 }
 
-// The request whose answer is awaited.
+// Returns the request whose answer the stage awaits.
 fn request_of(awaits: &AwaitsAnswer) -> Request
     ensures wanted { (port : ℕ) → wanted port (awaiting_answer awaits.now) ≡ AnswerTo result }
     ensures link { link_wanted (awaiting_answer awaits.now) ≡ Want.Answer result }
@@ -124,7 +124,7 @@ fn request_of(awaits: &AwaitsAnswer) -> Request
     }
 }
 
-// The request of an exchange outside of a transfer.
+// Returns the request of an exchange outside a transfer.
 fn request_for(what: &ExchangeFor) -> Request
     ensures { result ≡ request_for what.now }
 {
@@ -143,7 +143,7 @@ fn request_for(what: &ExchangeFor) -> Request
     }
 }
 
-// What a permit is for.
+// Returns the transfer that a permit is for.
 fn transfer_of(held: &Held) -> Transfer
     ensures { result ≡ transfer_of held.now }
 {
@@ -153,7 +153,7 @@ fn transfer_of(held: &Held) -> Transfer
     }
 }
 
-// The call that returns a permit.
+// Makes the call that returns a permit to the core.
 fn return_of(held: Held) -> CoreCall
     ensures { call_of result ≡ return_of held }
 {
@@ -163,7 +163,7 @@ fn return_of(held: Held) -> CoreCall
     }
 }
 
-// The status at a stage.
+// Returns the status at a stage.
 pub(crate) fn status(stage: &Stage) -> PortStatus
     ensures { result ≡ status_of (stage_of stage.now) }
 {
@@ -183,7 +183,7 @@ pub(crate) fn status(stage: &Stage) -> PortStatus
     }
 }
 
-// The status while a reply of the core is awaited.
+// Returns the status while a reply of the core is awaited.
 fn status_asking(awaits: &AwaitsCore) -> PortStatus
     ensures { result ≡ status_of (awaiting_core awaits.now) }
 {
@@ -199,7 +199,7 @@ fn status_asking(awaits: &AwaitsCore) -> PortStatus
     }
 }
 
-// The status of a settled port.
+// Returns the status of a settled port.
 fn status_at_rest(rest: &Rest) -> PortStatus
     ensures { result ≡ status_at_rest rest.now }
 {
@@ -214,7 +214,7 @@ fn status_at_rest(rest: &Rest) -> PortStatus
     }
 }
 
-// The status during an exchange outside of a transfer.
+// Returns the status during an exchange outside a transfer.
 fn status_exchanging(what: &ExchangeFor) -> PortStatus
     ensures { result ≡ status_exchanging what.now }
 {
@@ -228,7 +228,7 @@ fn status_exchanging(what: &ExchangeFor) -> PortStatus
     }
 }
 
-// The status until a permit is returned.
+// Returns the status until a permit is returned.
 fn status_returning(transfer: Transfer, rest: &Rest) -> PortStatus
     ensures { result ≡ status_returning transfer rest.now }
 {
@@ -238,7 +238,7 @@ fn status_returning(transfer: Transfer, rest: &Rest) -> PortStatus
     status_during(transfer)
 }
 
-// The status during a transfer.
+// Returns the status during a transfer.
 fn status_during(transfer: Transfer) -> PortStatus
     ensures { result ≡ status_during transfer }
 {

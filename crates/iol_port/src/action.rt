@@ -1,50 +1,50 @@
-//! What a port does next, and what it hears.
+//! The actions of a port, and the inputs that it is fed.
 
 use crate::call::{CoreCall, Reply};
 use arrayvec::ArrayVec;
 use iol_link::{ISDU_OCTETS, PAGE_OCTETS, Request};
 
-/// The EventCode by which a device asks for an upload (IO-Link V1.1, Data Storage, DS_UPLOAD_REQ).
+/// The EventCode with which a device asks for an upload (IO-Link V1.1, Data Storage, DS_UPLOAD_REQ).
 pub const UPLOAD_REQUEST: u16 = 0xFF91;
 
-/// What a port does next. It may hold a permit, and must be done.
+/// What a port does next. The caller must carry it out, since it may hold a permit.
 pub enum Action {
-    /// Nothing, until it is woken.
+    /// Do nothing, until the port is woken or the core replies.
     Idle,
-    /// It reads Direct Parameter page 1 of its device.
+    /// Read Direct Parameter page 1 of the device.
     ReadPage,
-    /// It sends a request.
+    /// Send this request to the device.
     Exchange(Request),
-    /// It asks the core.
+    /// Make this call of the core.
     Ask(CoreCall),
 }
 
-/// What a port hears. It may hold a permit, and must be fed.
+/// What a port is fed. The caller must feed it, since it may hold a permit.
 pub enum Input {
-    /// A settled port is to look again.
+    /// Wakes a settled port, which then checks its work and its device again.
     Wake,
     /// The device has raised an event with this EventCode.
     Event(u16),
-    /// The page, on a connection of the link.
+    /// Direct Parameter page 1 of the device, read on this connection of the link.
     Page {
         connection: u64,
         octets: [u8; PAGE_OCTETS],
     },
-    /// What the device answered to a request.
+    /// The octets with which the device answered a request.
     Octets(ArrayVec<u8, ISDU_OCTETS>),
-    /// The device is gone, in place of a page or an answer.
+    /// The device was lost, in place of a page or an answer.
     Lost,
-    /// What the core answered.
+    /// The core's reply to a call.
     Reply(Reply),
 }
 
-/// What a port wants of its link, once it is woken where it is settled.
+/// What a port needs from its link for its next step. That step wakes a settled port first.
 #[derive(Drop)]
 pub enum Want {
-    /// Direct Parameter page 1 of its device.
+    /// Direct Parameter page 1 of the device.
     Page,
-    /// The answer of its device to this request.
+    /// The device's answer to this request.
     Answer(Request),
-    /// Nothing: its step is a call of the core.
+    /// Nothing: the step calls the core.
     Nothing,
 }

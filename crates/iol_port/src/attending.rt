@@ -1,4 +1,4 @@
-//! What the core says is to be done.
+//! How a port continues once the core has returned its work.
 
 ghost use Rattle.std.specs.Prelude.{◌≡◌};
 ghost use Rattle.iol_port.specs.Stage.{IsStage, IsNext, Attending};
@@ -10,7 +10,7 @@ use crate::stage::{AttendFor, AwaitsCore, FoundDevice, Next, PageFor, Rest, Stag
 use iol_core::Work;
 use iol_transfer::StateProperty;
 
-// The port asks the core what is to be done.
+// Returns the stage in which the port asks the core for its work.
 pub(crate) fn attend(what: AttendFor) -> Stage
     ensures stage { stage_of result ≡ Attending what }
     ensures holds { IsStage (stage_of result) }
@@ -18,7 +18,7 @@ pub(crate) fn attend(what: AttendFor) -> Stage
     Stage::Core(AwaitsCore::Attending(what))
 }
 
-// The core has said what is to be done.
+// Continues with the work that the core returned, or settles as off without any.
 pub(crate) fn attended(
     started_revision: Option<u64>,
     upload_requested: bool,
@@ -57,7 +57,7 @@ fn is_under(started_revision: Option<u64>, revision: u64) -> bool
     }
 }
 
-// A settled port is woken under the configuration that it settled under.
+// Wakes a settled port whose configuration has not changed since it started.
 fn resume(rest: Rest, work: Work) -> Next
     ensures next { next_of result ≡ resumed rest work }
     ensures holds { IsNext (next_of result) }
@@ -72,7 +72,7 @@ fn resume(rest: Rest, work: Work) -> Next
     }
 }
 
-// What was read of a device counts under the configuration that the port started under.
+// Decides from what was read of a device, or starts again if the port was configured meanwhile.
 fn confirm(found: FoundDevice, property: StateProperty, checksum: u32, work: Work) -> Next
     ensures next { next_of result ≡ confirmed found property checksum work }
     ensures holds { IsNext (next_of result) }

@@ -1,4 +1,4 @@
-//! What a port asks of the core.
+//! The calls that a port makes of the core, and their replies.
 
 ghost use Rattle.std.specs.Prelude.{◌≡◌, IfOk};
 ghost use Rattle.iol_types.specs.DataSet.{IsSet};
@@ -12,35 +12,35 @@ use iol_front::Name;
 use iol_types::{DataSet, DeviceId, PortId};
 use std::sync::Arc;
 
-/// A call that a port asks of the core. It may hold a permit, and must be made.
+/// A call of the core that a port asks for. The caller must make it, since it may hold a permit.
 pub enum CoreCall {
-    /// What the port is to work with.
+    /// Asks what the port is to work with.
     Attend(PortId),
-    /// A permit to upload from a device on a connection.
+    /// Asks for a permit to upload from a device on a connection.
     BeginUpload {
         port: PortId,
         vendor: u16,
         device: DeviceId,
         connection: u64,
     },
-    /// The set that was uploaded under a permit.
+    /// Files the set that was uploaded under this permit.
     FinishUpload(UploadPermit, Arc<DataSet>),
-    /// A permit to upload comes back.
+    /// Returns a permit to upload.
     AbandonUpload(UploadPermit),
-    /// Whether a command is durable.
+    /// Asks whether a command is durable.
     AskTicket(Ticket),
-    /// A permit to download to a device with a checksum.
+    /// Asks for a permit to download to a device that has this checksum.
     BeginDownload {
         port: PortId,
         vendor: u16,
         device: DeviceId,
         checksum: u32,
     },
-    /// A permit to download comes back.
+    /// Returns a permit to download.
     EndDownload(DownloadPermit),
 }
 
-/// What the core answered. It may hold a permit, and must be fed to the machine whose call it answers.
+/// The core's reply to a call. It must be fed to the machine that asked for the call, since it may hold a permit.
 pub enum Reply {
     Attended(Option<Work>),
     BegunUpload(Result<UploadPermit, PermitFault>),
@@ -52,12 +52,12 @@ pub enum Reply {
 }
 
 impl CoreCall {
-    /// Makes the call.
+    /// Makes the call, and returns the core's reply.
     pub fn make<F: Name>(self, core: &mut Core<F>) -> Reply
         requires { MayBeMade (call_of self) }
         ensures replies { Replies (call_of self) core.old core.new result }
         ensures of_the_call { IsReplyTo (call_of self) result }
-        // A Store that waits passes in the live state.
+        // A Store that the core accepts is legal in its live state.
         ensures passes { Passes (call_of self) core.old result }
     {
         match self {
@@ -94,7 +94,7 @@ impl CoreCall {
     }
 }
 
-// What a download begins with is a parameter set. Its type has that as an invariant, and here a contract says it.
+// Does nothing. Its contract says what the type's invariant says: a download begins with a parameter set.
 fn look_at_set(begun: &Result<DownloadBegun, DownloadFault>)
     ensures { IfOk begun.now (λ begun. IsSet begun.set.value) }
 {

@@ -1,4 +1,4 @@
-//! What is to be done with the parameters of a device.
+//! The decision what to do with the parameters of a device.
 
 ghost use Rattle.std.specs.Prelude.{◌≡◌};
 ghost use Rattle.iol_port.specs.Decision.{decide};
@@ -6,23 +6,23 @@ ghost use Rattle.iol_port.specs.Decision.{decide};
 use iol_transfer::State;
 use iol_types::Validation;
 
-/// What is to be done with the parameters of a device that a port wants.
+/// What to do with the parameters of a device that fits its port's configuration.
 #[derive(Clone, Copy)]
 pub enum Decision {
-    /// Nothing: the device has them, or none are kept.
+    /// Nothing: the device has the stored parameters, or none are kept for it.
     Ready,
     /// Nothing: the device's Data Storage is locked.
     ReadyLocked,
     /// Nothing: there is no set to restore.
     ReadyEmpty,
-    /// They are read and stored.
+    /// Read the device's parameters and store them.
     Upload,
-    /// The stored ones are written to the device.
+    /// Write the stored parameters to the device.
     Download,
 }
 
-/// Decides, from the port's validation, the state, flag and checksum of the device's Data Storage, and the checksum of the
-/// stored set, if there is one (IO-Link V1.1, Data Storage). It takes no memory.
+/// Decides from the port's validation, the state, flag and checksum of the device's Data Storage, and the checksum of the
+/// stored set, if there is one (IO-Link V1.1, Data Storage). It allocates no memory.
 pub fn decide(
     validation: Validation,
     state: State,

@@ -14,7 +14,7 @@ use iol_core::{DownloadBegun, DownloadFault, DownloadPermit};
 use iol_link::{Answer, IsduFault, Page};
 use iol_transfer::{Download, DownloadStep};
 
-// A permit is given, with the set, or refused.
+// Begins a download with the permit and the set that the core returned, or fails if it refused them.
 pub(crate) fn begin(page: Page, begun: Result<DownloadBegun, DownloadFault>) -> Stage
     ensures stage { stage_of result ≡ download_begun page begun }
     ensures holds { IsStage (stage_of result) }
@@ -27,7 +27,7 @@ pub(crate) fn begin(page: Page, begun: Result<DownloadBegun, DownloadFault>) -> 
     }
 }
 
-// The device has answered a request of the download.
+// Takes the device's answer to a request of the download.
 pub(crate) fn answer(
     permit: DownloadPermit,
     page: Page,

@@ -1,4 +1,4 @@
-//! Facts of ports, with values from outside, for the definitions to be checked against: each is proved by computing.
+//! Examples of ports with values from outside the code, which check the definitions. Each is proved by computing.
 
 ghost use Rattle.std.specs.Prelude.{◌≡◌, ℕ, [], ◌∷◌, map, replicate, true, false, Some, None, Ok, Err};
 ghost use Rattle.iol_types.specs.Examples.{example_config, example_set};
@@ -44,7 +44,7 @@ ghost use Rattle.iol_port.specs.declared.stage.Rest.TheVariants as rest;
 ghost use Rattle.iol_port.specs.declared.stage.Transfer.TheVariants as kind;
 ghost use Rattle.iol_port.specs.declared.status.PortStatus.TheVariants as status;
 
-/// Up to Type compatible nothing is kept; a locked Data Storage is let alone.
+/// Validations up to Type compatible keep no parameters, and a locked Data Storage is left alone.
 pub fn nothing_to_do()
     ensures no_check { decide validation.NoCheck state.Locked true 7 None ≡ decision.Ready }
     ensures compatible_v10 { decide validation.TypeCompatibleV10 state.Locked true 7 (Some 8) ≡ decision.Ready }
@@ -55,8 +55,8 @@ pub fn nothing_to_do()
     ensures locked_restore { decide validation.Restore state.Locked false 7 (Some 8) ≡ decision.ReadyLocked }
 {}
 
-/// Under Backup and Restore a device is read where no set is durable or it asks for that; else it gets the set, unless it
-/// has it.
+/// Under Backup and Restore an upload is made if no set is durable or the device asks for it. Otherwise the set is downloaded,
+/// unless the device has it.
 pub fn backup_and_restore()
     ensures no_set { decide validation.BackupAndRestore state.Inactive false 7 None ≡ decision.Upload }
     ensures no_set_asked { decide validation.BackupAndRestore state.Inactive true 7 None ≡ decision.Upload }
@@ -69,7 +69,7 @@ pub fn backup_and_restore()
     ensures in_a_download { decide validation.BackupAndRestore state.Download false 7 (Some 7) ≡ decision.Ready }
 {}
 
-/// Under Restore a device gets the set, unless it has it or there is none; it is never read.
+/// Under Restore the set is downloaded, unless the device has it or there is none. No upload is ever made.
 pub fn restore()
     ensures no_set { decide validation.Restore state.Inactive true 7 None ≡ decision.ReadyEmpty }
     ensures equal { decide validation.Restore state.Inactive true 7 (Some 7) ≡ decision.Ready }
@@ -79,7 +79,7 @@ pub fn restore()
     ensures differs_unasked { decide validation.Restore state.Inactive false 7 (Some 8) ≡ decision.Download }
 {}
 
-/// What is read and written outside of a transfer: State_Property at 3.2, Parameter_Checksum at 3.4, and 02 and 05 to 3.1.
+/// The requests outside a transfer read State_Property at 3.2 and Parameter_Checksum at 3.4, and write 02 and 05 to 3.1.
 pub fn requests()
     ensures state { wanted 1 (Exchanging (exchange.ReadingState (example_found None) 16)) ≡ AnswerTo (request.Read 3 2) }
     ensures sum { wanted 1 (Exchanging (exchange.ReadingChecksum (example_found None) flagged 16))
@@ -91,14 +91,14 @@ pub fn requests()
     ensures permit { wanted 1 (BeginningUpload (example_found None)) ≡ ReplyTo (BeginUpload 1 500 43981 3) }
 {}
 
-/// The sixteenth Device busy in a row is a fault.
+/// The sixteenth answer Device busy in a row is a fault.
 pub fn a_busy_device()
     ensures most { MOST_REQUESTS ≡ 16 }
     ensures fifteenth { state_read (example_found None) 2 (Ok answer.Busy) ≡ Exchanging (exchange.ReadingState (example_found None) 1) }
     ensures sixteenth { state_read (example_found None) 1 (Ok answer.Busy) ≡ failed fault.Busy }
 {}
 
-/// State_Property 80 is inactive with the flag set; two octets are no State_Property, and three no checksum.
+/// State_Property 80 is inactive with the flag set. Two octets are no State_Property, and three are no checksum.
 pub fn what_is_read()
     ensures state { state_read (example_found None) 16 (Ok (answer.ReadOk (carried (0x80 ∷ []))))
         ≡ Exchanging (exchange.ReadingChecksum (example_found None) flagged 16) }
@@ -110,7 +110,7 @@ pub fn what_is_read()
         ≡ failed fault.Unexpected }
 {}
 
-/// Event FF91 is the request for an upload; it starts a settled port, which else looks for its device first.
+/// Event FF91 is the request for an upload. It makes a woken port start, which otherwise compares its device's page first.
 pub fn a_request_for_an_upload()
     ensures code { UPLOAD_REQUEST ≡ 0xFF91 }
     ensures kept { (noted (example_machine false (Settled rest.Off)) 0xFF91).upload_requested ≡ true }
@@ -130,8 +130,8 @@ pub fn a_request_for_an_upload()
         ∷ record fitting_page { min_cycle_time = 24 } ∷ example_page 0x11 false ∷ []) ≡ replicate 4 (Start (example_work None)) }
 {}
 
-/// DS_UploadEnd is sent once the set is durable; where nobody will know, or nothing more is taken, DS_Break is, and no permit
-/// is held.
+/// DS_UploadEnd is sent once the set is durable. DS_Break is sent, with no permit held, if the core does not take the set or
+/// cannot say whether it is durable.
 pub fn the_end_of_an_upload()
     ensures waiting { status_of (ticket_told 2 fitting_page ticket.Waiting) ≡ status.Storing }
     ensures durable { ticket_told 2 fitting_page ticket.Durable ≡ Exchanging (exchange.EndingUpload fitting_page 16) }
@@ -142,7 +142,7 @@ pub fn the_end_of_an_upload()
         ≡ example_machine false (failed fault.Stopped) }
 {}
 
-/// A loss shows at once, also where a permit is still to be returned.
+/// The status is `Lost` at once, even if a permit is still to be returned.
 pub fn a_loss()
     ensures held { lost (Breaking (held.Upload example_grant) fault.Size) ≡ Returning (held.Upload example_grant) rest.Lost }
     ensures without_a_permit { map lost (Paging (page.Identifying (example_work None))
@@ -180,7 +180,7 @@ pub fn statuses()
         ∷ Returned kind.Download (rest.Failed fault.Busy) ∷ []) ≡ replicate 4 status.Downloading }
 {}
 
-/// The fault of a port is named as what it calls names it.
+/// Each fault of an ISDU, a transfer, a permit or an answer is this fault of the port.
 pub fn names_of_faults()
     ensures isdu { map of_isdu (isdu.Empty ∷ isdu.Reserved ∷ isdu.WrongService ∷ isdu.Length ∷ isdu.Check ∷ [])
         ≡ fault.Empty ∷ fault.Reserved ∷ fault.WrongService ∷ fault.Length ∷ fault.Check ∷ [] }
@@ -200,7 +200,7 @@ pub fn names_of_faults()
         ≡ fault.Check ∷ fault.Refused 0x80 0x11 ∷ fault.Unexpected ∷ fault.Unexpected ∷ [] }
 {}
 
-/// A port that is woken stays off, starts where its device was lost or it failed, and else reads the page.
+/// A woken port stays off if it was off, starts if its device was lost or it had failed, and otherwise reads the page.
 pub fn a_woken_port()
     ensures off { resumed rest.Off (example_work None) ≡ To (Settled rest.Off) }
     ensures starts { map (λ own. resumed own (example_work None)) (rest.Lost ∷ rest.Failed fault.Size ∷ [])
@@ -212,7 +212,8 @@ pub fn a_woken_port()
     ensures manual { first_stage (example_work None) ≡ Paging (page.Identifying (example_work None)) }
 {}
 
-/// A device that does not fit is a mismatch; up to Type compatible one that fits is ready, and else its Data Storage is read.
+/// A device that does not fit is a mismatch. One that fits is ready under validations up to Type compatible; otherwise its
+/// Data Storage is read.
 pub fn an_identified_device()
     ensures mismatch { judged (example_work None) 3 fitting_page (Some ident.Device) ≡ Settled (rest.Mismatch ident.Device fitting_page) }
     ensures ready { map (λ asks. judged (record (example_work None) { config = record example_config { validation = asks } })
@@ -226,7 +227,7 @@ pub fn an_identified_device()
         ≡ To (BeginningUpload (example_found None)) }
 {}
 
-/// A permit that is refused fails the port without DS_Break, and a fault of a transfer that runs sends it.
+/// A refused permit fails the port without DS_Break, and a fault of a running transfer sends DS_Break.
 pub fn refused_permits_and_broken_transfers()
     ensures upload { upload_begun fitting_page (Err permit.Taken) ≡ failed fault.Taken }
     ensures download { download_begun fitting_page (Err download.Same) ≡ failed fault.Same }
@@ -239,7 +240,8 @@ pub fn refused_permits_and_broken_transfers()
     ensures download_done { downloaded 1 fitting_page Done ≡ Returning (held.Download 1) (rest.Ready fitting_page) }
 {}
 
-/// The fifteenth Device busy in a row to a download is waited out, and the sixteenth is a fault; so it is with DS_UploadEnd.
+/// A download sends its request again after the fifteenth Device busy in a row, and fails at the sixteenth. DS_UploadEnd
+/// does the same.
 pub fn a_device_that_stays_busy()
     ensures fifteenth { sent (record (begun_download example_set) { busy = 14 }) answer.Busy
         ≡ GoesOn (record (begun_download example_set) { busy = 15 }) }

@@ -1,4 +1,4 @@
-//! Messages outside of a transfer.
+//! Messages outside a transfer.
 
 ghost use Rattle.std.specs.Prelude.{◌≡◌};
 ghost use Rattle.iol_link.specs.Reading.{answer_of};
@@ -12,14 +12,14 @@ use crate::stage::{AttendFor, AwaitsAnswer, ExchangeFor, FoundDevice, Held, Rest
 use iol_link::{Answer, IsduFault, Page, read_answer};
 use iol_transfer::{MOST_REQUESTS, StateProperty};
 
-// The answer that octets are read as, or their fault.
+// Reads octets as an answer, or returns their fault.
 pub(crate) fn answer_in(octets: &[u8]) -> Result<Answer, IsduFault>
     ensures { result ≡ answer_of octets.now }
 {
     read_answer(octets)
 }
 
-// The port has failed.
+// Settles the port as failed.
 pub(crate) fn fail(fault: PortFault) -> Stage
     ensures stage { stage_of result ≡ failed fault }
     ensures holds { IsStage (stage_of result) }
@@ -27,7 +27,7 @@ pub(crate) fn fail(fault: PortFault) -> Stage
     Stage::Settled(Rest::Failed(fault))
 }
 
-// The port sends a message outside of a transfer, and awaits the answer.
+// Sends a message outside a transfer, whose answer the port then awaits.
 pub(crate) fn send(what: ExchangeFor) -> Stage
     ensures stage { stage_of result ≡ Exchanging what }
     ensures holds { IsStage (stage_of result) }
@@ -35,7 +35,7 @@ pub(crate) fn send(what: ExchangeFor) -> Stage
     Stage::Answer(AwaitsAnswer::Exchanging(what))
 }
 
-// The port breaks a transfer off, and returns the permit after that.
+// Breaks a transfer off with DS_Break. The permit is returned after that.
 pub(crate) fn break_off(held: Held, fault: PortFault) -> Stage
     ensures stage { stage_of result ≡ Breaking held fault }
     ensures holds { IsStage (stage_of result) }
@@ -43,7 +43,7 @@ pub(crate) fn break_off(held: Held, fault: PortFault) -> Stage
     Stage::Answer(AwaitsAnswer::Breaking(held, fault))
 }
 
-// The device is busy: a request that may still be sent is sent again.
+// Sends a request to a busy device again, or fails if it was sent too often.
 fn again(left: u8, next: ExchangeFor) -> Stage
     ensures stage { stage_of result ≡ again left next }
     ensures holds { IsStage (stage_of result) }
@@ -55,7 +55,7 @@ fn again(left: u8, next: ExchangeFor) -> Stage
     }
 }
 
-// The device has answered a message outside of a transfer.
+// Takes the device's answer to a message outside a transfer.
 pub(crate) fn exchange(what: ExchangeFor, answer: Result<Answer, IsduFault>) -> Stage
     ensures stage { stage_of result ≡ exchanged what answer }
     ensures holds { IsStage (stage_of result) }
@@ -73,7 +73,7 @@ pub(crate) fn exchange(what: ExchangeFor, answer: Result<Answer, IsduFault>) -> 
     }
 }
 
-// State_Property was read.
+// Takes the answer to the read of State_Property.
 fn read_state(found: FoundDevice, left: u8, answer: Result<Answer, IsduFault>) -> Stage
     ensures stage { stage_of result ≡ state_read found left answer }
     ensures holds { IsStage (stage_of result) }
@@ -98,7 +98,7 @@ fn read_state(found: FoundDevice, left: u8, answer: Result<Answer, IsduFault>) -
     }
 }
 
-// Parameter_Checksum was read.
+// Takes the answer to the read of Parameter_Checksum.
 fn read_checksum(
     found: FoundDevice,
     property: StateProperty,
@@ -129,7 +129,7 @@ fn read_checksum(
     }
 }
 
-// DS_UploadEnd was answered.
+// Takes the answer to DS_UploadEnd.
 fn end_upload(page: Page, left: u8, answer: Result<Answer, IsduFault>) -> Stage
     ensures stage { stage_of result ≡ upload_ended page left answer }
     ensures holds { IsStage (stage_of result) }

@@ -8,14 +8,13 @@ use iol_link::{Answer, IsduFault};
 use iol_transfer::TransferFault;
 use thiserror::Error;
 
-/// Why a port fails. What comes from the device is named as a transfer or an ISDU names it, and what comes from the core as
-/// the core does.
+/// Why a port fails. Faults of an ISDU, of a transfer and of the core keep their names, but a download's `Empty` is `NoSet`.
 #[derive(Clone, Copy, Debug, PartialEq, Eq, Error)]
 pub enum PortFault {
     /// The device refused a request, with ErrorCode and AdditionalCode (IO-Link V1.1, ISDU error codes).
     #[error("refused by the device with {error:02X} {additional:02X}")]
     Refused { error: u8, additional: u8 },
-    /// An answer to something else than was asked.
+    /// An answer that does not fit the request.
     #[error("an answer to something else")]
     Unexpected,
     /// A parameter set of more than 4,096 octets.
@@ -30,16 +29,16 @@ pub enum PortFault {
     /// Out of memory.
     #[error("out of memory")]
     Memory,
-    /// An answer of no octet.
+    /// An answer without octets.
     #[error("an answer of no octet")]
     Empty,
     /// An answer with a reserved I-Service or length.
     #[error("an answer with a reserved I-Service or length")]
     Reserved,
-    /// A message of another service where an answer was to come.
+    /// A message of another service in place of an answer.
     #[error("a message of another service")]
     WrongService,
-    /// An answer with a wrong count of octets.
+    /// An answer with a wrong number of octets.
     #[error("an answer with a wrong count of octets")]
     Length,
     /// An answer with a wrong CHKPDU.
@@ -54,10 +53,10 @@ pub enum PortFault {
     /// The port's configuration or its stored set names another device.
     #[error("the port is configured for another device")]
     WrongDevice,
-    /// A permit of the port is out.
+    /// A permit of the port is already given.
     #[error("the port has a permit")]
     Taken,
-    /// The device has the stored set already.
+    /// The device already has the stored set.
     #[error("the device has the parameter set")]
     Same,
     /// No command number is left.
@@ -69,7 +68,7 @@ pub enum PortFault {
 }
 
 impl PortFault {
-    // Octets that are no answer.
+    // The fault of octets that are no answer.
     pub(crate) fn of_isdu(fault: IsduFault) -> PortFault
         ensures { result ≡ of_isdu fault }
     {
@@ -82,7 +81,7 @@ impl PortFault {
         }
     }
 
-    // A transfer that ends in a fault.
+    // The fault that a transfer ended in.
     pub(crate) fn of_transfer(fault: TransferFault) -> PortFault
         ensures { result ≡ of_transfer fault }
     {
@@ -98,7 +97,7 @@ impl PortFault {
         }
     }
 
-    // No permit to upload.
+    // The fault of a refused permit to upload.
     pub(crate) fn of_permit(fault: PermitFault) -> PortFault
         ensures { result ≡ of_permit fault }
     {
@@ -110,7 +109,7 @@ impl PortFault {
         }
     }
 
-    // No permit to download.
+    // The fault of a refused permit to download.
     pub(crate) fn of_download(fault: DownloadFault) -> PortFault
         ensures { result ≡ of_download fault }
     {
@@ -124,7 +123,7 @@ impl PortFault {
         }
     }
 
-    // A read whose answer is not what was to come.
+    // The fault of a read whose answer is not the expected one.
     pub(crate) fn of_read(answer: Result<Answer, IsduFault>) -> PortFault
         ensures { result ≡ read_fault answer }
     {
@@ -138,7 +137,7 @@ impl PortFault {
         }
     }
 
-    // A write whose answer is not what was to come.
+    // The fault of a write whose answer is not the expected one.
     pub(crate) fn of_write(answer: Result<Answer, IsduFault>) -> PortFault
         ensures { result ≡ write_fault answer }
     {

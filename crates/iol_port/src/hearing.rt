@@ -1,4 +1,4 @@
-//! What a port makes of an answer of its device, and of a reply of the core.
+//! How a port continues after an answer of its device or a reply of the core.
 
 ghost use Rattle.std.specs.Prelude.{◌≡◌, ◌⊎◌};
 ghost use Rattle.iol_link.specs.Reading.{answer_of};
@@ -14,7 +14,7 @@ use crate::stage::{AwaitsAnswer, AwaitsCore, Next, Rest, Stage};
 use crate::{attending, downloading, uploading};
 use std::alloc::Global;
 
-// The device has answered.
+// Takes an answer of the device.
 pub(crate) fn answer(alloc: Global, awaits: AwaitsAnswer, octets: &[u8]) -> Stage
     requires { IsStage (awaiting_answer awaits) }
     ensures stage { (stage_of result ≡ answered (awaiting_answer awaits) (answer_of octets.now))
@@ -34,7 +34,7 @@ pub(crate) fn answer(alloc: Global, awaits: AwaitsAnswer, octets: &[u8]) -> Stag
     }
 }
 
-// The core has replied.
+// Takes a reply of the core.
 pub(crate) fn reply(
     alloc: Global,
     started_revision: Option<u64>,

@@ -1,6 +1,6 @@
-//! Laws of the machines of ports, which no code calls: what all that has happened to a machine tells of its transfers.
+//! Laws of the machines of ports: what the history of a machine says about its transfers. No code calls them.
 //! Proofs of other crates cite them from files of `proofs`: most from `PortLaws` and `SettlingLaws`, under the same names, and
-//! that of permits from `Holding` and `Releasing`. Those of decisions stand in `Deciding`, of a settled port's page in
+//! the law of permits from `Holding` and `Releasing`. The laws of decisions are in `Deciding`, of a settled port's page in
 //! `Comparing`, of failed transfers in `BreakingOff`, and of ready ports in `Restoring`.
 
 ghost use Rattle.std.specs.Prelude.{◌≡◌, ◌⊎◌, ◌↔◌, ℕ, Bool, true, false, List, ◌∷◌, Option, Some, None, Err};
@@ -48,17 +48,17 @@ ghost use Rattle.iol_port.specs.declared.stage.Held.TheVariants as held;
 ghost use Rattle.iol_port.specs.declared.stage.Rest.{Rest};
 ghost use Rattle.iol_port.specs.declared.stage.Rest.TheVariants as rest;
 
-/// What comes of what a machine wants may be fed to it.
+/// Any outcome of what a machine wants may be fed to it.
 pub fn what_comes_fits()
     ensures { (port : ℕ) (history : List Happening) (value : PortValue) (heard : Input) → HasLed port history value → IsStage value.stage
         → ComesOf (wanted value.port value.stage) heard → Fits (after_action value.stage) heard }
 {}
 
-/// What is done with the parameters of a device, and when. They are read and stored where the validation backs up, the
-/// device's Data Storage is not locked, and nothing is stored or the device asks for it. The stored ones are written to it
-/// where the validation restores, the Data Storage is not locked, their checksum is another than the device's, and it has
-/// not asked for an upload that it would get. Nothing is done where the validation does not restore, or the stored
-/// checksum is the device's; where the Data Storage is locked; and where there is nothing to restore and nothing backs up.
+/// When each decision is taken. An upload is made if the validation backs up, the device's Data Storage is not locked, and no
+/// set is stored or the device asks for it. A download is made if the validation restores, the Data Storage is not locked, the
+/// stored checksum is not the device's, and the device has not asked for an upload that it would get. Nothing is done if the
+/// validation does not restore, if the device has the stored checksum and gets no upload, if the Data Storage is locked, or if
+/// no set is stored and the validation does not back up.
 pub fn what_is_decided()
     ensures upload { (validation : Validation) (at : State) (flag : Bool) (checksum : ℕ) (stored : Option ℕ)
         → (decide validation at flag checksum stored ≡ decision.Upload)
@@ -78,8 +78,8 @@ pub fn what_is_decided()
         ↔ ((restores validation ≡ true) × (backs_up validation ≡ false) × (at ≡ state.Locked → ⊥) × (stored ≡ None)) }
 {}
 
-/// A permit to upload is asked for only where the device was found on its connection and examined there, and an upload was
-/// decided; it is asked for with the numbers of the device's page and that connection.
+/// A port asks for a permit to upload only after it found and examined the device on its connection and decided on an upload.
+/// The call has the numbers of the device's page and that connection.
 pub fn an_upload_is_decided()
     ensures { (port : ℕ) (history : List Happening) (value : PortValue) (asks vendor device connection : ℕ) → HasLed port history value
         → wanted value.port value.stage ≡ ReplyTo (BeginUpload asks vendor device connection)
@@ -87,8 +87,8 @@ pub fn an_upload_is_decided()
         × (BeginUpload asks vendor device connection ≡ BeginUpload port found.page.vendor found.page.device found.connection) }
 {}
 
-/// A permit to download is asked for only where the device was found on its connection and examined there, and a download
-/// was decided. It is asked for with the numbers of the device's page and the checksum that the device has.
+/// A port asks for a permit to download only after it found and examined the device on its connection and decided on a
+/// download. The call has the numbers of the device's page and the checksum that the device has.
 pub fn a_download_is_decided()
     ensures { (port : ℕ) (history : List Happening) (value : PortValue) (asks vendor device checksum : ℕ) → HasLed port history value
         → wanted value.port value.stage ≡ ReplyTo (BeginDownload asks vendor device checksum)
@@ -96,7 +96,7 @@ pub fn a_download_is_decided()
         × (BeginDownload asks vendor device checksum ≡ BeginDownload port found.page.vendor found.page.device checksum) }
 {}
 
-/// While a permit to upload is held each request is the next of an upload since the permit was given, or DS_Break.
+/// While a permit to upload is held, each request is the next one of an upload since the permit was given, or DS_Break.
 pub fn an_upload_sends_its_requests()
     ensures { (port : ℕ) (history : List Happening) (value : PortValue) (grant : UploadGrant) (request : Request)
         → HasLed port history value
@@ -105,7 +105,7 @@ pub fn an_upload_sends_its_requests()
         ⊎ ((conversation : List Exchange) × HasUploaded port grant conversation history × IsNext conversation request) }
 {}
 
-/// A set is filed only where the exchanges since its permit was given are a finished upload of it.
+/// A set is filed only if the exchanges since its permit was given are a finished upload of it.
 pub fn a_set_is_filed_whole()
     ensures { (port : ℕ) (history : List Happening) (value : PortValue) (grant : UploadGrant) (set : SetValue) → HasLed port history value
         → wanted value.port value.stage ≡ ReplyTo (FinishUpload grant set)
@@ -113,7 +113,7 @@ pub fn a_set_is_filed_whole()
         × IsFinished grant.vendor grant.device conversation set }
 {}
 
-/// While a permit to download is held each request is the next of a download of the set that came with it, or DS_Break.
+/// While a permit to download is held, each request is the next one of a download of the set that came with it, or DS_Break.
 pub fn a_download_sends_its_set()
     ensures { (port : ℕ) (history : List Happening) (value : PortValue) (permit : ℕ) (request : Request) → HasLed port history value
         → held_by value.stage ≡ Some (held.Download permit) → wanted value.port value.stage ≡ AnswerTo request
@@ -122,14 +122,14 @@ pub fn a_download_sends_its_set()
         × IsSending set conversation request busy) }
 {}
 
-/// DS_UploadEnd is sent only where a finished upload was filed and the core has said that its set is durable.
+/// DS_UploadEnd is sent only after a finished upload was filed and the core has reported its set as durable.
 pub fn an_upload_ends_once_durable()
     ensures { (port : ℕ) (history : List Happening) (value : PortValue) → HasLed port history value
         → wanted value.port value.stage ≡ AnswerTo (commanded command.UploadEnd) → IsDurable port history }
 {}
 
-/// Where the device is lost, a machine keeps nothing but a permit that it held, and that only to return it; once the permit
-/// is returned it is settled as lost, and whatever is to be done then, it starts.
+/// After a loss a machine keeps only the permit that it held, and only to return it. Then it is settled as lost, and when it
+/// is woken it starts with any work that the core returns.
 pub fn a_loss_keeps_nothing()
     ensures lost { (old new : PortValue) (wants : Wanted) → Happens old (Did wants input.Lost) new
         → IsLostWith (held_by old.stage) new.stage }
@@ -138,19 +138,19 @@ pub fn a_loss_keeps_nothing()
         → fed (at_stage value (Attending (attend.Waking rest.Lost))) (input.Reply (reply.Attended (Some work))) ≡ started value work }
 {}
 
-/// Where the status of a port changes as it settles, it settles for its reason. It is off where the core has said that the
-/// port is not there or not IOL_MANUAL, a mismatch where the page has that fault, and ready where the page is wanted.
+/// A port that settles with a new status has the reason for it. It is off if the core has said that the port is not there or
+/// not IOL_MANUAL, a mismatch if the device's page has that fault, and ready if the page fits the configuration.
 pub fn a_port_settles_for_its_reason()
     ensures { (port : ℕ) (history : List Happening) (old new : PortValue) (latest : Happening) (own : Rest) → HasLed port history old
         → Happens old latest new → new.stage ≡ Settled own → (status_of old.stage ≡ status_of new.stage → ⊥)
         → IsJudged own (latest ∷ history) }
 {}
 
-/// A port becomes ready only for one of these reasons. Its page was read, and nothing is to be restored; or the device was
-/// found and examined, and it was decided so; or a permit to download is returned, and since it was given the set that came
-/// with it was written whole, each request answered (+); or the device answered (+) to DS_UploadEnd, and what it uploaded is
-/// durable. It becomes ready but locked, or ready and empty, only where that was decided. So no port
-/// becomes ready by a download or a DS_UploadEnd that its device refused, nor where a download was decided and not made.
+/// A port becomes ready only in one of four cases. Its page was read, and nothing is to be restored. The device was found and
+/// examined, and the decision was `Ready`. A permit to download is returned, and since it was given the set that came with it
+/// was written whole, each request answered (+). The device answered (+) to DS_UploadEnd, and what it uploaded is durable. A
+/// port becomes `ReadyLocked` or `ReadyEmpty` only by that decision. So no port becomes ready by a download or a DS_UploadEnd
+/// that its device refused, nor if a download was decided and not made.
 pub fn a_ready_port_has_its_set()
     ensures ready { (port : ℕ) (history : List Happening) (old new : PortValue) (latest : Happening) (page : PageValue)
         → HasLed port history old
@@ -166,18 +166,18 @@ pub fn a_ready_port_has_its_set()
         → IsSoDecided decision.ReadyEmpty page (latest ∷ history) }
 {}
 
-/// Where a page was read and the port is settled then, it is off, or the page that it keeps is the one that was read, in
-/// every field: VendorID, DeviceID, RevisionID, MinCycleTime, and whether ISDU is supported. So a settled port stays as it
-/// was only where the device that it finds has its own page.
+/// A port that settles after reading a page is off, or keeps the page that was read, in every field: VendorID, DeviceID,
+/// RevisionID, MinCycleTime, and whether ISDU is supported. So a settled port stays as it was only if the device that it
+/// finds has the page that the port keeps.
 pub fn a_settled_port_keeps_its_page()
     ensures { (connection : ℕ) (octets : List ℕ) (old new : PortValue) (own : Rest)
         → Happens old (Did ThePage (input.Page connection octets)) new
         → new.stage ≡ Settled own → (own ≡ rest.Off) ⊎ (page_at own ≡ Some (page_of octets)) }
 {}
 
-/// A machine comes to return a permit as that of a failed transfer only where it held it, wanted DS_Break of the device, and
-/// heard an answer to that. Where a failed upload has no permit to return, as the core took it with the set, DS_Break is
-/// wanted next: nothing more is stored, the port was configured anew, or nobody will know whether the set is durable.
+/// A machine returns the permit of a failed transfer only after it sent DS_Break to the device and got an answer, while it held
+/// the permit. A failed upload whose permit the core took with the set also sends DS_Break next. That happens if nothing more is
+/// stored, the port was configured again, or the core cannot say whether the set is durable.
 pub fn a_failed_transfer_is_broken_off()
     ensures returns { (old new : PortValue) (wants : Wanted) (heard : Input) (holder : Held) (why : PortFault)
         → Happens old (Did wants heard) new
@@ -194,8 +194,8 @@ pub fn a_failed_transfer_is_broken_off()
         → wanted new.port new.stage ≡ AnswerTo (commanded command.Break) }
 {}
 
-/// The permit of a port that is out is the one that its machine holds, and none is out where it holds none. An event and what
-/// is heard from the link leave the permit that is held. A call of the core gives or takes it, and the end of the machine
+/// The permit that the core has given for a port is the one that its machine holds, and there is none if it holds none. Events
+/// and answers of the link do not change the held permit. A call of the core gives or takes it, and the end of the machine
 /// returns it.
 pub fn a_permit_is_held_or_spent()
     ensures link { (port : ℕ) (history : List Happening) (old new : PortValue) (wants : Wanted) (heard : Input) → HasLed port history old

@@ -1,17 +1,19 @@
 //! The machine of a port: what is done with its device, one step at a time.
 //!
-//! What the link and the core have answered comes in, and the next [`Action`] goes out: read the page, send a request, or
-//! ask the core. A [`PortMachine`] makes no call itself, so it runs the same on one thread and on many; [`CoreCall::make`]
-//! makes the call that is asked of the core. The machine finds out whether the device is the one that the port wants,
-//! [`decide`]s what to do with its parameters, uploads or downloads them under a permit, and says in a word how the port
-//! is ([`PortStatus`]).
+//! A [`PortMachine`] takes the answers of the link and the core, and returns the next [`Action`]: read the page, send a request,
+//! or ask the core. It makes no call itself, so it runs the same on one thread and on many; [`CoreCall::make`] makes the call
+//! that it asks of the core. The machine checks whether the device fits the port's configuration, [`decide`]s what to do with
+//! its parameters, uploads or downloads them under a permit, and reports the status of the port ([`PortStatus`]).
 //!
-//! Modules in reading order: `fault`, `status` and `same_status`, the words; `decision`; `call` and `action`, what goes out and comes
-//! in; `stage`, how far a machine is; `acting`, what it does next; then what it makes of what it hears: `attending`,
-//! `paging`, `exchanging`, `uploading`, `downloading`, `losing`, `hearing`; `machine`, which puts them together; `laws`, for
-//! proofs of other crates; and `examples`, facts with values. What a machine wants stands in `specs/Wanted.antt`, and what
-//! it makes of each thing that it hears in `specs/Heard.antt` and `specs/Answers.antt`; what its history tells of transfers,
-//! of how it settles and of permits is said in `specs/Laws.antt` and `specs/Permits.antt`.
+//! Modules in reading order:
+//! - `fault`, `status` and `same_status` are the faults and statuses of a port, and `decision` is what to do with its device.
+//! - `call` and `action` are the inputs and outputs of a machine, `stage` is its state, and `acting` is what it does next.
+//! - `attending`, `paging`, `exchanging`, `uploading`, `downloading`, `losing` and `hearing` handle its inputs.
+//! - `machine` puts them together, `laws` are for proofs of other crates, and `examples` check the definitions with values.
+//!
+//! `specs/Wanted.antt` says what a machine wants, and `specs/Heard.antt` and `specs/Answers.antt` say how it continues after each
+//! input. What its history says about transfers, about how it settles and about permits is in `specs/Laws.antt` and
+//! `specs/Permits.antt`.
 #![tactic(auto)]
 
 mod acting;

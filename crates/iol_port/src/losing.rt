@@ -1,4 +1,4 @@
-//! The device is gone, or the machine ends: a permit that is held is returned.
+//! The return of a held permit, after the device was lost or when the machine ends.
 
 ghost use Rattle.std.specs.Prelude.{◌≡◌};
 ghost use Rattle.iol_port.specs.Ending.{released, ended};
@@ -10,7 +10,7 @@ use crate::stage::{AwaitsAnswer, Held, Rest, SpendsPermit, Stage};
 use iol_core::Core;
 use iol_front::Name;
 
-// The device is gone where its answer was awaited.
+// The device was lost while the port awaited its answer.
 pub(crate) fn lose(awaits: AwaitsAnswer) -> Stage
     ensures stage { stage_of result ≡ lost (awaiting_answer awaits) }
     ensures holds { IsStage (stage_of result) }
@@ -27,7 +27,7 @@ pub(crate) fn lose(awaits: AwaitsAnswer) -> Stage
     }
 }
 
-// The port returns a permit, and is then settled so.
+// Returns a permit with the next call of the core. The port then settles as `rest`.
 pub(crate) fn give_back(held: Held, rest: Rest) -> Stage
     ensures stage { stage_of result ≡ Returning held rest }
     ensures holds { IsStage (stage_of result) }
@@ -35,7 +35,7 @@ pub(crate) fn give_back(held: Held, rest: Rest) -> Stage
     Stage::Permit(SpendsPermit::Returning(held, rest))
 }
 
-// Returns the permit that a stage holds, if it holds one; the rest of it is let go.
+// Returns the permit that a stage holds, if it holds one, and drops the rest of the stage.
 pub(crate) fn release<F: Name>(stage: Stage, core: &mut Core<F>)
     ensures { core.new ≡ ended core.old (stage_of stage) }
 {
@@ -59,7 +59,7 @@ fn release_transfer<F: Name>(awaits: AwaitsAnswer, core: &mut Core<F>)
     }
 }
 
-// Returns a permit.
+// Returns a permit to the core.
 fn release_held<F: Name>(held: Held, core: &mut Core<F>)
     ensures { core.new ≡ released core.old held }
 {

@@ -22,7 +22,7 @@ use iol_types::PortId;
 use std::alloc::Global;
 use std::marker::Model;
 
-/// The machine of a port. It may hold a permit, and must be ended. A contract sees the record `PortValue` of
+/// The machine of a port. It must be ended, since it may hold a permit. A contract sees the record `PortValue` of
 /// `specs/Stage.antt`.
 pub struct PortMachine {
     alloc: Global,
@@ -45,7 +45,7 @@ impl Model for PortMachine {
 }
 
 impl PortMachine {
-    /// A new machine of this port, settled as off.
+    /// Makes a new machine for this port, settled as off.
     pub fn new(alloc: Global, port: PortId) -> PortMachine
         ensures { result ≡ new_machine port }
     {
@@ -58,35 +58,35 @@ impl PortMachine {
         }
     }
 
-    /// The port.
+    /// The port of this machine.
     pub fn port(&self) -> PortId
         ensures { result ≡ self.now.port }
     {
         self.port
     }
 
-    /// How the port is.
+    /// The status of the port.
     pub fn status(&self) -> PortStatus
         ensures { result ≡ status_of self.now.stage }
     {
         acting::status(&self.stage)
     }
 
-    /// Whether the port is settled: nothing is next until it is woken.
+    /// Whether the port is settled: it does nothing until it is woken.
     pub fn is_settled(&self) -> bool
         ensures { result ≡ is_settled self.now.stage }
     {
         matches!(self.stage, Stage::Settled(_))
     }
 
-    /// What its link is wanted for: the page, an answer, or nothing, where the step is a call of the core.
+    /// What the next step needs from the link: the page, an answer, or nothing if the step calls the core.
     pub fn want(&self) -> Want
         ensures { result ≡ link_wanted self.now.stage }
     {
         acting::want(&self.stage)
     }
 
-    /// Returns the ticket of the command that files the port's set, while the port waits until that is durable.
+    /// Returns the ticket of the command that files the port's set, while the port waits for it to become durable.
     pub fn awaits(&self) -> Option<Ticket>
         ensures { result ≡ awaited self.now.stage }
     {
@@ -96,7 +96,7 @@ impl PortMachine {
         }
     }
 
-    /// What is next. A permit that a call of the core takes goes with it; until the reply is fed the machine is `Idle`.
+    /// Returns the next action. A call of the core that takes a permit holds it; until the reply is fed the machine is `Idle`.
     pub fn action(&mut self) -> Action
         ensures wanted { wanted_of result ≡ wanted self.old.port self.old.stage }
         ensures may_be_made { IfAsks result MayBeMade }
@@ -108,8 +108,8 @@ impl PortMachine {
         action
     }
 
-    /// Takes what came of the action, an event, or that a settled port is woken. It takes memory for what an upload reads;
-    /// where there is none, the port fails.
+    /// Takes the outcome of the action, an event, or the wake of a settled port. It allocates memory for what an upload reads; if
+    /// out of memory, the upload is broken off and the port fails.
     pub fn feed(&mut self, input: Input)
         requires { Fits self.old.stage input }
         ensures fed { IsFed self.old input self.new }
@@ -146,7 +146,7 @@ impl PortMachine {
         }
     }
 
-    /// Ends the machine: a permit that it holds is returned.
+    /// Ends the machine, and returns the permit that it holds, if any, to the core.
     pub fn end<F: Name>(self, core: &mut Core<F>)
         ensures { core.new ≡ ended core.old self.stage }
     {
@@ -160,7 +160,7 @@ impl PortMachine {
         losing::release(stage, core);
     }
 
-    // An event was raised.
+    // Notes an event of the device.
     fn note(&mut self, code: u16)
         ensures noted { self.new ≡ noted self.old code }
         ensures holds { IsStage self.new.stage }
@@ -168,7 +168,7 @@ impl PortMachine {
         self.upload_requested = self.upload_requested || code == UPLOAD_REQUEST;
     }
 
-    // Takes the stage out; the machine is settled as off meanwhile.
+    // Takes the stage out. The machine is settled as off meanwhile.
     fn take(&mut self) -> Stage
         ensures stage { stage_of result ≡ self.old.stage }
         ensures holds { IsStage (stage_of result) }
@@ -177,7 +177,7 @@ impl PortMachine {
         std::mem::replace(&mut self.stage, Stage::Settled(Rest::Off))
     }
 
-    // Puts the next stage where the last one was taken out, or starts with new work.
+    // Puts the next stage in place of the one that was taken out, or starts with new work.
     fn go(&mut self, next: Next)
         requires out { self.old.stage ≡ Settled Off }
         requires holds { IsNext (next_of next) }

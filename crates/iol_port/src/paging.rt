@@ -1,4 +1,4 @@
-//! What the page of the device says.
+//! How a port continues after it has read the page of its device.
 
 ghost use Rattle.std.specs.Prelude.{◌≡◌};
 ghost use Rattle.iol_link.specs.Page.{page_of};
@@ -13,7 +13,7 @@ use iol_link::{PAGE_OCTETS, Page, validate};
 use iol_transfer::MOST_REQUESTS;
 use iol_types::{PortMode, Validation};
 
-// The page was read, on a connection.
+// Takes the page that was read on a connection.
 pub(crate) fn page(what: PageFor, connection: u64, octets: &[u8; PAGE_OCTETS]) -> Next
     ensures next { next_of result ≡ page_heard what connection (page_of octets.now) }
     ensures holds { IsNext (next_of result) }
@@ -34,7 +34,7 @@ pub(crate) fn page(what: PageFor, connection: u64, octets: &[u8; PAGE_OCTETS]) -
     }
 }
 
-// A settled port has this page.
+// Whether a settled port keeps this page.
 fn is_settled_with(rest: &Rest, page: &Page) -> bool
     ensures { result ≡ settled_with rest.now page.now }
 {
@@ -47,7 +47,7 @@ fn is_settled_with(rest: &Rest, page: &Page) -> bool
     }
 }
 
-// The device is the one that the port wants.
+// Examines the Data Storage of a device that fits, or settles as ready if the validation does not restore.
 fn find(work: Work, connection: u64, page: Page) -> Stage
     ensures stage { stage_of result ≡ found_by work connection page }
     ensures holds { IsStage (stage_of result) }
@@ -70,7 +70,7 @@ fn find(work: Work, connection: u64, page: Page) -> Stage
     }
 }
 
-// The port starts.
+// Starts the port with this work: it reads the page, or is off if it is not IOL_MANUAL.
 pub(crate) fn start(work: Work) -> Stage
     ensures stage { stage_of result ≡ first_stage work }
     ensures holds { IsStage (stage_of result) }

@@ -1,11 +1,11 @@
-//! Whether two statuses of a port are one, case by case.
+//! The equality of two statuses of a port, case by case.
 
 ghost use Rattle.std.specs.Prelude.{◌≡◌, ◌↔◌, IsTrue};
 
 use crate::fault::PortFault;
 use crate::status::PortStatus;
 
-// Whether both are one status.
+// Whether both statuses are equal.
 pub(crate) fn is_same_status(one: PortStatus, other: PortStatus) -> bool
     ensures { IsTrue result ↔ (one ≡ other) }
 {
@@ -30,7 +30,7 @@ pub(crate) fn is_same_status(one: PortStatus, other: PortStatus) -> bool
     }
 }
 
-// Whether both are one fault.
+// Whether both faults are equal.
 fn is_same_fault(one: PortFault, other: PortFault) -> bool
     ensures { IsTrue result ↔ (one ≡ other) }
 {
@@ -56,7 +56,7 @@ fn is_same_fault(one: PortFault, other: PortFault) -> bool
     }
 }
 
-// Whether it is a refusal with these octets.
+// Whether the fault is a refusal with this ErrorCode and AdditionalCode.
 fn is_refusal(fault: PortFault, code: u8, more: u8) -> bool
     ensures { IsTrue result ↔ (PortFault.Refused code more ≡ fault) }
 {

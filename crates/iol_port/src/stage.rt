@@ -1,4 +1,4 @@
-//! How far a port is.
+//! The stages of a port.
 
 use crate::fault::PortFault;
 use iol_core::{DownloadPermit, Ticket, UploadPermit, Work};
@@ -7,7 +7,7 @@ use iol_transfer::{Download, StateProperty, Upload};
 use iol_types::DataSet;
 use std::sync::Arc;
 
-// How a port has settled, and the page of its device where the device is there.
+// How a port has settled, with the page of its device if the device is there.
 #[derive(Clone, Copy)]
 pub(crate) enum Rest {
     Off,
@@ -19,8 +19,8 @@ pub(crate) enum Rest {
     Mismatch(IdentFault, Page),
 }
 
-// A device that was found to be the one that the port wants: what the port was to work with, the device's page, and the
-// connection on which it was read.
+// A device that fits its port's configuration: the work of the port, the device's page, and the connection on which the page
+// was read.
 #[derive(Clone, Copy)]
 pub(crate) struct FoundDevice {
     pub(crate) work: Work,
@@ -28,33 +28,33 @@ pub(crate) struct FoundDevice {
     pub(crate) connection: u64,
 }
 
-// What a page is read for.
+// Why a page is read.
 #[derive(Clone, Copy)]
 pub(crate) enum PageFor {
-    // Whether the device of a settled port is still there.
+    // To check whether the device of a settled port is still there.
     Comparing { work: Work, rest: Rest },
-    // Whether the device is the one that the port wants.
+    // To check whether the device fits the port's configuration.
     Identifying { work: Work },
 }
 
-// What the core is asked for, where it says what is to be done.
+// Why the core is asked for the port's work.
 #[derive(Clone, Copy)]
 pub(crate) enum AttendFor {
     // A settled port was woken.
     Waking {
         rest: Rest,
     },
-    // Whether what was read of a device still counts.
+    // To check whether what was read of a device still counts.
     Confirming {
         found: FoundDevice,
         property: StateProperty,
         checksum: u32,
     },
-    // An upload came to nothing, since the port was configured anew.
+    // The set of an upload was not taken, since the port was configured again.
     Restarting,
 }
 
-// What is sent to the device outside of a transfer; `left` says how often it may still be sent, where the device is busy.
+// What is sent to the device outside a transfer. `left` says how often it may still be sent if the device is busy.
 #[derive(Clone, Copy)]
 pub(crate) enum ExchangeFor {
     ReadingState {
@@ -75,33 +75,33 @@ pub(crate) enum ExchangeFor {
     Stopping {
         storing: bool,
     },
-    // DS_Break: the port was configured anew. No permit is held.
+    // DS_Break: the port was configured again. No permit is held.
     Yielding,
 }
 
-// What a transfer does.
+// The direction of a transfer.
 #[derive(Clone, Copy)]
 pub(crate) enum Transfer {
     Upload,
     Download,
 }
 
-// A permit that is held.
+// A permit that a port holds.
 pub(crate) enum Held {
     Upload(UploadPermit),
     Download(DownloadPermit),
 }
 
-// The port awaits an answer of its device. A transfer holds its permit, which is spent with it.
+// Why a port awaits an answer of its device. A transfer holds its permit until it ends.
 pub(crate) enum AwaitsAnswer {
     Exchanging(ExchangeFor),
     Uploading(UploadPermit, Page, Upload),
     Downloading(DownloadPermit, Page, Download),
-    // DS_Break, and then the permit is returned.
+    // DS_Break is sent, and after its answer the permit is returned.
     Breaking(Held, PortFault),
 }
 
-// The port awaits a reply of the core, and holds no permit.
+// Why a port awaits a reply of the core. It holds no permit.
 #[derive(Clone, Copy)]
 pub(crate) enum AwaitsCore {
     Attending(AttendFor),
@@ -114,29 +114,29 @@ pub(crate) enum AwaitsCore {
     Returned(Transfer, Rest),
 }
 
-// The port holds a permit, and spends it with its next call of the core.
+// Why a port holds a permit that its next call of the core takes.
 pub(crate) enum SpendsPermit {
     Filing(UploadPermit, Page, Arc<DataSet>),
     Returning(Held, Rest),
 }
 
-// How far a port is: a stage says by its type what the port hears there.
+// The stage of a port. Its variant says what may be fed to the port, apart from events.
 pub(crate) enum Stage {
-    // It is woken.
+    // The port may be woken.
     Settled(Rest),
-    // It hears the page of its device, or that the device is gone.
+    // The port is fed the page of its device, or that the device was lost.
     Page(PageFor),
-    // It hears an answer of its device, or that the device is gone.
+    // The port is fed an answer of its device, or that the device was lost.
     Answer(AwaitsAnswer),
-    // It hears the reply of the core to its call.
+    // The port is fed the core's reply to its call.
     Core(AwaitsCore),
-    // It hears nothing until it has asked the core.
+    // The port is fed nothing until it has called the core.
     Permit(SpendsPermit),
 }
 
-// Where a port goes.
+// How a port continues.
 pub(crate) enum Next {
     To(Stage),
-    // It starts with this work.
+    // The port starts with this work.
     Start(Work),
 }

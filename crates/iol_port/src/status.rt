@@ -1,37 +1,37 @@
-//! How a port is, in a word.
+//! The status of a port.
 
 use crate::fault::PortFault;
 use crate::same_status::is_same_status;
 use iol_link::IdentFault;
 
-/// How a port is.
+/// The status of a port.
 #[derive(Clone, Copy, Debug)]
 pub enum PortStatus {
-    /// The port has no device to look after.
+    /// The port has no device to work with.
     Off,
-    /// The device is gone.
+    /// The device was lost.
     Lost,
-    /// The device is being looked at.
+    /// The device is being examined.
     Starting,
-    /// The device is the one that the port wants, and has the stored parameters, if any are to be stored.
+    /// The device fits the configuration, and has the stored parameters, if any are kept for it.
     Ready,
-    /// The same, but the device's Data Storage is locked.
+    /// As `Ready`, but the device's Data Storage is locked.
     ReadyLocked,
-    /// The same, but there is no stored set to restore.
+    /// As `Ready`, but there is no stored set to restore.
     ReadyEmpty,
-    /// The device's parameters are read.
+    /// The device's parameters are being read.
     Uploading,
-    /// They were read, and are being stored.
+    /// The device's parameters were read, and are being stored.
     Storing,
-    /// The stored parameters are written to the device.
+    /// The stored parameters are being written to the device.
     Downloading,
-    /// The device is not the one that the port wants.
+    /// The device does not fit the configuration.
     Mismatch(IdentFault),
-    /// What was begun has failed.
+    /// What the port had begun has failed.
     Failed(PortFault),
 }
 
-/// Statuses are equal where they are one: that of a derive would not say so of the faults.
+/// This is written by hand, since the contract of a derived `eq` does not say when two faults are equal.
 impl PartialEq for PortStatus {
     ghost use Rattle.std.specs.Prelude.{◌≡◌, ◌↔◌, IsTrue};
     ghost use Rattle.std.specs.Cmp.{partial_equiv_from_equiv};

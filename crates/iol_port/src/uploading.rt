@@ -20,7 +20,7 @@ use iol_types::DataSet;
 use std::alloc::Global;
 use std::sync::Arc;
 
-// A permit is given or refused.
+// Begins an upload with the permit that the core gave, or fails if it refused one.
 pub(crate) fn begin(alloc: Global, page: Page, begun: Result<UploadPermit, PermitFault>) -> Stage
     ensures stage { stage_of result ≡ upload_begun page begun }
     ensures holds { IsStage (stage_of result) }
@@ -35,7 +35,7 @@ pub(crate) fn begin(alloc: Global, page: Page, begun: Result<UploadPermit, Permi
     }
 }
 
-// The device has answered a request of the upload.
+// Takes the device's answer to a request of the upload.
 pub(crate) fn answer(
     alloc: Global,
     permit: UploadPermit,
@@ -54,7 +54,7 @@ pub(crate) fn answer(
     }
 }
 
-// The upload is given an answer.
+// Feeds an answer to the upload.
 fn feed(alloc: Global, permit: UploadPermit, page: Page, upload: Upload, answer: Answer) -> Stage
     requires { IsStage (Uploading permit page upload) }
     ensures stage { (stage_of result ≡ uploaded permit page (step upload answer))
@@ -71,7 +71,7 @@ fn feed(alloc: Global, permit: UploadPermit, page: Page, upload: Upload, answer:
     }
 }
 
-// The upload has ended with a set, which is filed where there is memory for it.
+// Files the set of a finished upload, or breaks the upload off if out of memory.
 fn file(alloc: Global, permit: UploadPermit, page: Page, set: DataSet) -> Stage
     requires { IsUnder permit set }
     ensures stage { (stage_of result ≡ Filing permit page set) ⊎ (stage_of result ≡ Breaking (held.Upload permit) Memory) }
@@ -83,7 +83,7 @@ fn file(alloc: Global, permit: UploadPermit, page: Page, set: DataSet) -> Stage
     }
 }
 
-// The core has taken the set, or not.
+// Takes the core's reply to the filed set.
 pub(crate) fn finish(page: Page, finished: Result<Ticket, FinishFault>) -> Stage
     requires { HandsBack finished }
     ensures stage { stage_of result ≡ upload_finished page finished }
@@ -105,7 +105,7 @@ pub(crate) fn finish(page: Page, finished: Result<Ticket, FinishFault>) -> Stage
     }
 }
 
-// The core has said whether the set is durable.
+// Takes the core's reply whether the set is durable.
 pub(crate) fn store(ticket: Ticket, page: Page, state: TicketState) -> Stage
     ensures stage { stage_of result ≡ ticket_told ticket page state }
     ensures holds { IsStage (stage_of result) }

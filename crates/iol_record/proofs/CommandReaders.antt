@@ -24,14 +24,14 @@ tag_of_command (Clear port) = tag.Clear
 tag_of_command (Store port revision set) = tag.Store
 tag_of_command (Rollback port) = tag.Rollback
 
--- what stands behind the tag
+-- the octets after the tag
 abbrev arguments_octets : Version → CommandValue → List ℕ
 arguments_octets version (Configure port config) = port ∷ config_octets version config
 arguments_octets version (Clear port) = port ∷ []
 arguments_octets version (Store port revision set) = port ∷ (to_be_bytes w64 revision ++ set_octets set)
 arguments_octets version (Rollback port) = port ∷ []
 
--- a version spells what stands behind the tag, whether or not it has the tag
+-- a version spells what follows the tag, whether or not it has the tag
 abbrev SpellsArguments : Version → CommandValue → Type 0
 SpellsArguments version (Configure port config) = SpellsLabel version config.label
 SpellsArguments version other = Unit {0}
@@ -40,7 +40,7 @@ SpellsArguments version other = Unit {0}
 abbrev pub IsCommandIn : Version → CommandValue → Type 0
 IsCommandIn version command = IsCommand command × SpellsCommand version command
 
--- a command in range that has this tag, and behind the tag what a version spells
+-- a command in range that has this tag, and after the tag what a version spells
 abbrev IsTagged : Version → Tag → CommandValue → Type 0
 IsTagged version t command = (tag_of_command command ≡ t) × (IsCommand command × SpellsArguments version command)
 
@@ -129,7 +129,7 @@ spelled_behind version (Clear port) is = tt
 spelled_behind version (Store port revision set) is = tt
 spelled_behind version (Rollback port) is = tt
 
--- and spells a command of whose parts it spells each
+-- and it spells a command if it has the tag and spells what follows it
 spelled_whole : (version : Version) (command : CommandValue) → HasTag version (tag_of_command command) → SpellsArguments version command
     → SpellsCommand version command
 spelled_whole version (Configure port config) has is = is

@@ -17,7 +17,7 @@ use Rattle.iol_record.proofs.Fields.{mode_reads, validation_reads, vendor_reads,
 abbrev IsLabelIn : Version → List ℕ → Type 0
 IsLabelIn version label = (is_label label ≡ true) × SpellsLabel version label
 
--- a label of so many octets
+-- a label of `count` octets
 abbrev IsLong : ℕ → List ℕ → Type 0
 IsLong count label = (length label ≡ count) × (is_label label ≡ true)
 

@@ -1,18 +1,18 @@
--- What a reader makes of octets in front of which a spelling stands.
+-- What a reader returns for octets with a spelling at their front.
 use Rattle.std.proofs.Common.{◌≡◌, ℕ, ◌+◌, ◌-◌, ◌≤◌, List, [], ◌++◌, length, take, drop, Ok, Err, refl, sym, ap, ◌∙◌, arith}
 use Rattle.std.proofs.lemmas.List.{append-nil, take_at, drop_at, length-append}
 use Rattle.iol_record.specs.declared.fault.RecordFault.{RecordFault}
 use Rattle.iol_record.specs.Reading.{Reading}
 use Rattle.iol_record.proofs.Readers.{AreOctets, IsReader, ok_is, done}
 
--- what is read where a spelling stands in front
+-- the value that is read if a spelling is at the front
 pub only_front : {A : Type 0} {reader : Reading A} {spelling : A → List ℕ} {InRange : A → Type 0} → IsReader reader spelling InRange
     → (octets front : List ℕ) (value : A) (rest : List ℕ) → front ≡ spelling value → InRange value → octets ≡ front ++ rest → reader octets
     ≡ Ok (value, rest)
 only_front {A} {reader} reads octets front value rest spelled in_range whole =
     ap reader (whole ∙ ap (λ f. f ++ rest) spelled) ∙ reads.again value rest in_range
 
--- a value is read from so many octets, which are its spelling, and no other value stands in front
+-- a value is read from `count` octets, which are its spelling, and no other value is at the front
 pub record Decodes {A : Type 0} (reader : Reading A) (spelling : A → List ℕ) (InRange : A → Type 0) (octets : List ℕ) (value : A)
     (count : ℕ) : Type 0 where
   pub within : count ≤ length octets
@@ -52,12 +52,12 @@ decodes {A} {reader} {spelling} reads octets value rest count are e is =
       exact = e ∙ ap (λ r. Ok (value, r)) behind;
     }
 
--- a value is not read where a fault is
+-- a value is not read if there is a fault
 pub no_fault_at : {A : Type 0} (reader : Reading A) (octets : List ℕ) (value : A) (rest : List ℕ) (fault : RecordFault) → reader octets
     ≡ Ok (value, rest) → reader octets ≡ Err fault → ⊥
 no_fault_at {A} reader octets value rest fault e f = let is : done {A = A × List ℕ} (value, rest) ≡ Err fault = sym e ∙ f in cc
 
--- no spelling begins another
+-- no spelling is a prefix of another
 pub begins_none : {A : Type 0} {reader : Reading A} {spelling : A → List ℕ} {InRange : A → Type 0} → IsReader reader spelling InRange
     → (front rest : List ℕ) (one two : A) → front ≡ spelling one → InRange one → front ++ rest ≡ spelling two → InRange two → (one ≡ two)
     × (rest ≡ [])

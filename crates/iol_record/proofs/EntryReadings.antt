@@ -1,4 +1,4 @@
--- Entries read one behind the other, as a loop reads them.
+-- Entries read one after the other, as a loop reads them.
 use Rattle.std.proofs.Common.{◌≡◌, ℕ, ◌+◌, ◌<◌, ◌≤◌, inl, inr, subst, arith, List, [], ◌∷◌, ◌++◌, Result, Ok, Err, refl, sym, ap, ◌∙◌}
 use Rattle.std.proofs.Common.{add-one, append_assoc}
 use Rattle.std.specs.Prelude.{IsOk, min}
@@ -10,7 +10,7 @@ use Rattle.iol_record.specs.declared.fault.RecordFault.{RecordFault}
 use Rattle.iol_record.specs.declared.fault.RecordFault.TheVariants.{Short, BadTag, BadField, Memory}
 use Rattle.iol_record.specs.Reading.{joined, entry_at, entries_at, IsReadFault}
 
--- the entries that are read, behind those that were
+-- the entries already read, and those that are still to be read
 abbrev pub all_with : List Entry → ℕ → List ℕ → Result (List Entry × List ℕ) RecordFault
 all_with built left octets = joined (λ (more : List Entry). built ++ more) (entries_at left built) octets
 
@@ -24,11 +24,11 @@ with_none : (read : Result (List Entry × List ℕ) RecordFault) → joined (λ 
 with_none (Ok more) = refl
 with_none (Err fault) = refl
 
--- where none was read before, all are those that are read
+-- if none was read before, these are the entries still to be read
 pub with-empty : (left : ℕ) (octets : List ℕ) → all_with [] left octets ≡ entries_at left [] octets
 with-empty left octets = with_none (entries_at left [] octets)
 
--- one more entry is one of those that were read
+-- reading one more entry does not change the whole
 pub with-one_more : (built : List Entry) (entry : Entry) (left : ℕ) (octets rest : List ℕ) → entry_at built octets ≡ Ok (entry, rest)
     → all_with built (left + 1) octets ≡ all_with (built ++ entry ∷ []) left rest
 with-one_more built entry left octets rest read = rw (add-one, read) (regrouped built entry (entries_at left (built ++ entry ∷ []) rest))
@@ -40,7 +40,7 @@ with-fault built left octets fault read = rw (add-one, read) refl
 pub with-none : (built : List Entry) (octets : List ℕ) → all_with built 0 octets ≡ Ok (built, octets)
 with-none built octets = ap (λ (entries : List Entry). Ok (entries, octets)) (append-nil built)
 
--- the first of some entries is read where it is whole and in range
+-- the first entry is read if it is complete and in range
 pub first-read : (count : ℕ) (octets : List ℕ) → 1 ≤ count → IsOk (entry_at [] octets) → IsOk (entries_at (min 1 count) [] octets)
 first-read count octets some read = rw (min-eq_left some) (by (entry_at [] octets) refl read)
   where
@@ -48,7 +48,7 @@ first-read count octets some read = rw (min-eq_left some) (by (entry_at [] octet
     by (Ok entry) is ok = rw is refl
     by (Err fault) is ok = cc
 
--- an entry that is not read is the fault of all
+-- a fault at an entry is the fault of all
 pub at-fault : (built : List Entry) (left count : ℕ) (octets old : List ℕ) (fault : RecordFault)
     → IsReadFault (entry_at built octets) fault (entry_at built octets)
     → all_with built (left + 1) octets ≡ entries_at count [] old → (IsOk (entry_at built octets) → IsOk (entries_at (min 1 count) [] old))
@@ -58,7 +58,7 @@ at-fault built left count octets old Short is all begun = sym all ∙ with-fault
 at-fault built left count octets old BadTag is all begun = sym all ∙ with-fault built left octets BadTag is
 at-fault built left count octets old BadField is all begun = sym all ∙ with-fault built left octets BadField is
 
--- once an entry is read in its turn, the first one is
+-- if an entry is read in its turn, the first one was
 pub has-begun : (built : List Entry) (counter count : ℕ) (octets old : List ℕ) → counter < count
     → (counter ≡ 0 → (built ≡ []) × (octets ≡ old))
     → (1 ≤ counter → IsOk (entries_at (min 1 count) [] old)) → IsOk (entry_at built octets) → IsOk (entries_at (min 1 count) [] old)

@@ -1,4 +1,4 @@
--- Each field reads back what its octets spell.
+-- Each field is read back from its octets.
 use Rattle.std.proofs.Common.{◌≡◌, ℕ, ◌+◌, ◌^◌, ◌<◌, ◌≤◌, get_or, is_some, subst, List, [], ◌∷◌, length, Bool, true, false, cond, leb, eqb}
 use Rattle.std.proofs.Common.{Option, Some, None, ◌⊎◌, inl, inr, refl, sym, ap, ◌∙◌, ◌-◌, arith}
 use Rattle.std.specs.Prelude.{find, ◌&&◌}
@@ -37,7 +37,7 @@ chosen : {A : Type 0} (b : Bool) (x y : A) (other : Option A) → cond b (Some x
 chosen true x y other e = inl (refl, cc)
 chosen false x y other e = inr e
 
--- what a search finds passes its test
+-- a value that a search finds passes its test
 find-passes : {A : Type 0} (test : A → Bool) (xs : List A) (x : A) → find test xs ≡ Some x → test x ≡ true
 find-passes test [] x e = absurd cc
 find-passes test (y ∷ ys) x e =
@@ -210,7 +210,7 @@ revision_reads = record {
 
 -- ---- the fields of an entry
 
--- a number of an Index that is not reserved
+-- the number of an Index that is not reserved
 pub record IsFreeIndex (index : ℕ) : Type 0 where
   pub below : index < 2 ^ 16
   pub free : is_reserved (record { index = index; subindex = 0 }) ≡ false
@@ -266,7 +266,7 @@ subindex_reads others index = record {
         → new_key others index n ≡ Some key
     named-octet n octets is e = ap (λ os. new_key others index (from_be_bytes w8 os)) (sym is) ∙ e
 
--- a length with which an entry and the others make no set that is too large
+-- a length that does not make the set of an entry and the others too large
 pub record IsLength (others : List Entry) (count : ℕ) : Type 0 where
   pub short : count ≤ MOST_ENTRY_OCTETS
   pub fits : octets_of others + ENTRY_HEAD_OCTETS + count ≤ MOST_SET_OCTETS

@@ -1,4 +1,4 @@
--- What can't be out of memory, and what a fault of reading is.
+-- What a fault of reading is.
 use Rattle.std.proofs.Common.{◌≡◌, Result, Err, ◌⊎◌, inl, inr, refl}
 use Rattle.iol_record.specs.declared.fault.RecordFault.{RecordFault}
 use Rattle.iol_record.specs.declared.fault.RecordFault.TheVariants.{Short, BadTag, BadField, Memory}

@@ -21,12 +21,12 @@ abbrev is_stored : Option Stored → Bool
 is_stored None = false
 is_stored (Some stored) = true
 
--- what stands behind the flag
+-- the octets after the flag
 abbrev behind_flag : Version → Option Stored → List ℕ
 behind_flag version None = []
 behind_flag version (Some stored) = config_octets version stored.recorded ++ set_octets stored.set
 
--- what is stored is in range and is spelled by a version, if something is
+-- the stored set, if there is one, is in range and a version spells it
 abbrev AreStored : Version → Option Stored → Type 0
 AreStored version stored = IfSome stored (λ kept. IsConfigIn version kept.recorded × IsSet kept.set)
 
@@ -87,7 +87,7 @@ flagged_reads version =
     flagged None = refl
     flagged (Some stored) = refl
 
--- what was stored before is in range and is spelled by a version, if something was
+-- the previous set, if there is one, is in range and a version spells it
 abbrev ArePrevious : Version → Option Stored → Type 0
 ArePrevious version previous = AreStored version previous × SpellsPrevious version previous
 
@@ -103,7 +103,7 @@ PortParts = PortConfig × (ℕ × (Option Stored × Option Stored))
 abbrev port_of : PortParts → Port
 port_of parts = record { config = parts.0; revision = parts.1.0; stored = parts.1.1.0; previous = parts.1.1.1 }
 
--- a port whose parts are in range and are spelled by a version, whether or not its sets may stand at it
+-- a port whose parts are in range and spelled by a version, whether or not it may have its sets
 pub record HasParts (version : Version) (port : Port) : Type 0 where
   pub config : IsConfigIn version port.config
   pub revision : port.revision ≤ LAST_REVISION
@@ -131,7 +131,7 @@ port_parts_read version =
 abbrev pub IsPortIn : Version → Port → Type 0
 IsPortIn version port = IsPort port × SpellsPort version port
 
--- what is stored, in the words of the parts and in those of the port
+-- the stored set, as a part and as that of the port
 module _ (version : Version) where
   are-stored : (stored : Option Stored) → AreStored version stored
       → IfSome stored IsStored × IfSome stored (λ kept. SpellsLabel version kept.recorded.label)
@@ -149,7 +149,7 @@ previous-are version None is spelled = (tt, spelled)
 previous-are One (Some previous) is spelled = absurd cc
 previous-are Two (Some previous) is spelled = (((is.recorded, tt), is.set), tt)
 
--- a port is one exactly where its parts are in range and its sets may stand at it
+-- a port is valid exactly if its parts are in range and it may have its sets
 tested-is_port : (version : Version) (port : Port) → HasParts version port → sets_may_stand port ≡ true → IsPortIn version port
 tested-is_port version port parts may =
     let stored = are-stored version port.stored parts.stored in

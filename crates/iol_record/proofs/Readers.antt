@@ -1,4 +1,4 @@
--- What holds of each reader of a field or a record, and that readers put together keep it.
+-- What holds of each reader of a field or a record, and of readers made of several.
 use Rattle.std.proofs.Common.{◌≡◌, ℕ, Bool, true, false, ◌+◌, ◌<◌, ◌≤◌, List, [], ◌++◌, length, get_or, take, drop, Option, Some, None}
 use Rattle.std.proofs.Common.{Result, Ok, Err, inl, inr, refl, sym, ap, subst, ◌∙◌, append_assoc, arith}
 use Rattle.std.specs.Option.{ok_or}
@@ -10,7 +10,7 @@ use Rattle.iol_record.specs.declared.fault.RecordFault.{RecordFault}
 use Rattle.iol_record.specs.declared.fault.RecordFault.TheVariants.{Short, BadField}
 use Rattle.iol_record.specs.Reading.{Reading, Field, ◌>>=◌, octets_at, next_number, field_at, both, followed, joined, if_so, tested}
 
--- each number is that of an octet
+-- each number is an octet
 abbrev pub AreOctets : List ℕ → Type 0
 AreOctets octets = (i : ℕ) → get_or octets i 0 < 256
 
@@ -24,25 +24,25 @@ AreOctets-take n octets h i =
       | inr le ↦ rw (get_or_past (take n octets) i 0 (omega (arith, length-take n octets))) (omega arith)
     ]
 
--- a reading to which more octets are added behind what was read
+-- a reading with more octets appended to those after its value
 abbrev pub extended : {A : Type 0} → List ℕ → Result (A × List ℕ) RecordFault → Result (A × List ℕ) RecordFault
 extended more (Ok x) = Ok (x.0, x.1 ++ more)
 extended more (Err fault) = Err fault
 
--- the front of some octets, and the octets behind it
+-- some octets split into a front and the octets after it
 pub record Splits (octets front rest : List ℕ) : Type 0 where
   pub parts : octets ≡ front ++ rest
   pub rest_octets : AreOctets rest
 
--- what is not short is read the same before more octets
+-- a reading that is not short is the same if more octets follow
 abbrev pub Stays : {A : Type 0} → Reading A → Type 0
 Stays reader = (octets more : List ℕ) → (reader octets ≡ Err Short → ⊥) → reader (octets ++ more) ≡ extended more (reader octets)
 
 -- a reader of values in range, each of which has one spelling
 pub record IsReader {A : Type 0} (reader : Reading A) (spelling : A → List ℕ) (InRange : A → Type 0) : Type 0 where
-  -- what is spelled is read, whatever follows
+  -- the spelling of a value is read as the value, whatever follows
   pub again : (value : A) (rest : List ℕ) → InRange value → reader (spelling value ++ rest) ≡ Ok (value, rest)
-  -- what is read is spelled
+  -- what is read is the spelling of the value
   pub takes : (octets : List ℕ) (value : A) (rest : List ℕ) → AreOctets octets → reader octets ≡ Ok (value, rest)
       → Splits octets (spelling value) rest × InRange value
   pub stays : Stays reader
@@ -105,7 +105,7 @@ field-whole field octets le = rw (number-whole field.width octets le) refl
 field-short : {A : Type 0} (field : Field A) (octets : List ℕ) → length octets < byte_len field.width → field_at field octets ≡ Err Short
 field-short field octets lt = rw (number-short field.width octets lt) refl
 
--- a field that is read is whole
+-- a field that is read is complete
 field-ok : {A : Type 0} (field : Field A) (octets : List ℕ) (x : A × List ℕ) → field_at field octets ≡ Ok x
     → (byte_len field.width ≤ length octets) × (field.value (from_be_bytes field.width (take (byte_len field.width) octets)) ≡ Some x.0)
     × (drop (byte_len field.width) octets ≡ x.1)
@@ -159,14 +159,14 @@ field_reads field spelling InRange is = record {
   stays = field-stays field;
 }
 
--- ---- two readers, one behind the other
+-- ---- two readers, one after the other
 
 both-again : {A B : Type 0} (first : Reading A) (second : Reading B) (a : A) (b : B) (s t rest : List ℕ)
     → first (s ++ (t ++ rest)) ≡ Ok (a, t ++ rest) → second (t ++ rest) ≡ Ok (b, rest) → both first second ((s ++ t) ++ rest)
     ≡ Ok ((a, b), rest)
 both-again first second a b s t rest e f = rw (append_assoc s t rest, e, f) refl
 
--- what both read, each by itself
+-- what the two readers read, each by itself
 both-ok : {A B : Type 0} (first : Reading A) (second : Reading B) (octets : List ℕ) (x : (A × B) × List ℕ) → both first second octets ≡ Ok x
     → (middle : List ℕ) × (first octets ≡ Ok (x.0.0, middle)) × (second middle ≡ Ok (x.0.1, x.1))
 both-ok first second octets x e =
@@ -248,9 +248,9 @@ joined_reads whole reader s t P Q are reads = record {
       ∙ bind_stays more (reader octets) (λ a. Ok (whole a.0, a.1)) (λ x e. refl);
 }
 
--- ---- a value, and one behind it that goes by the first
+-- ---- a value, and one after it that depends on the first
 
--- a value begins with a part, and the rest of it goes by that part
+-- a value begins with a part, and the rest of it depends on that part
 pub record HasFirst {A B : Type 0} (s : A → List ℕ) (t u : B → List ℕ) (P : A → Type 0) (Q : A → B → Type 0) (R : B → Type 0) : Type 0 where
   pub first : (b : B) → R b → (a : A) × P a × Q a b
   pub spelled : (a : A) (b : B) → Q a b → u b ≡ s a ++ t b
@@ -284,9 +284,9 @@ followed_reads {A} {B} first second s t u P Q R has one two = record {
       ∙ bind_stays more (first octets) next (λ x e. (two x.0).stays x.1 more (λ f. not_short (rw (e, f) refl)));
 }
 
--- ---- nothing, so many octets, and a test at the end
+-- ---- nothing, a number of octets, and a test at the end
 
--- a value that no octets spell
+-- a value that is spelled by no octets
 pub nothing_reads : {A : Type 0} (value : A) → IsReader (λ octets. Ok (value, octets)) (λ _. []) (λ a. a ≡ value)
 nothing_reads value = record {
   again = λ a rest is. ap (λ x. Ok (x, rest)) (sym is);
@@ -331,7 +331,7 @@ octets_reads count = record {
       ];
 }
 
--- a value that passes a test, where the test is passed
+-- a tested value that is read has passed the test
 passed : {A : Type 0} (b : Bool) (x y : A × List ℕ) → ok_or (if_so b x) BadField ≡ Ok y → (b ≡ true) × (x ≡ y)
 passed true x y e = (refl, ok_is x y e)
 passed false x y e = absurd cc

@@ -1,4 +1,4 @@
--- What the crates above take of records: each version spells what it has to, and how long records are.
+-- What other crates use of records: each version spells what it has to, and the lengths of records.
 use Rattle.std.proofs.Common.{◌≡◌, ℕ, ◌<◌, ◌≤◌, ◌+◌, true, List, [], ◌∷◌, ◌++◌, length, Option, Some, None, Ok, Err, refl, ap, arith}
 use Rattle.std.proofs.Common.{length-append, zero, suc, replicate}
 use Rattle.std.specs.Prelude.{IfSome}
@@ -46,7 +46,7 @@ spells-blank One zero = tt
 spells-blank One (suc n) = (record { label = refl; recorded = tt; previous = refl }, spells-blank One n)
 spells-blank Two n = spells-state (replicate n blank)
 
--- the most octets that a label has, and the most that a previous set has
+-- the maximum number of octets of a label, and of a previous set
 abbrev most_label : Version → ℕ
 most_label One = 0
 most_label Two = 33
@@ -64,7 +64,7 @@ length-config_octets : (version : Version) (config : PortConfig) → length (con
     ≡ 8 + length (label_octets version config.label)
 length-config_octets version config = length-append (numbers_octets config) (label_octets version config.label)
 
--- a stored set has a flag, a configuration, and 4,108 octets at most
+-- a stored set has a flag, a configuration, and at most 4,108 octets
 stored-short : (version : Version) (stored : Option Stored) → IfSome stored IsStored
     → length (stored_octets version stored) ≤ 4117 + most_label version
 stored-short version None is = omega arith
@@ -105,7 +105,7 @@ module _ (version : Version) where
   port_record_at-record front rest port is =
       only_front (port_record_reads version) (front ++ rest) front port rest is.spelling (is.in_range, is.spelled) refl
 
-  -- a command's record has at least one octet, and at most the largest's
+  -- a command's record has at least one octet, and at most those of the largest one
   pub length-command_record : (front : List ℕ) (command : CommandValue) → IsCommandRecord version front command → (0 < length front)
       × (length front ≤ LARGEST_COMMAND_RECORD)
   length-command_record front (Configure port config) is =
@@ -119,7 +119,7 @@ module _ (version : Version) where
       (omega (arith, long), omega (arith, long, all, is.in_range.2.entries.fits))
   length-command_record front (Rollback port) is = let long = ap length is.spelling in (omega (arith, long), omega (arith, long))
 
-  -- a port's record has at least one octet, and at most the largest's
+  -- a port's record has at least one octet, and at most those of the largest one
   pub length-port_octets : (port : Port) → IsPort port → (0 < length (port_octets version port))
       × (length (port_octets version port) ≤ largest_port_record version)
   length-port_octets port is =
@@ -142,7 +142,7 @@ module _ (version : Version) where
         ),
       )
 
-  -- what is not short as a port is read the same before more octets
+  -- octets that are not short as a port are read the same if more octets follow
   pub port_record_at-append : (octets more : List ℕ) → (port_record_at version octets ≡ Err Short → ⊥)
       → port_record_at version (octets ++ more) ≡ extended more (port_record_at version octets)
   port_record_at-append = (port_record_reads version).stays

@@ -23,7 +23,7 @@ use Rattle.iol_record.proofs.Fields.{checksum_reads, count_reads}
 -- ---- entries
 
 module _ (others : List Entry) where
-  -- an entry with this key and so many octets
+  -- an entry with this key and `count` octets
   abbrev IsOf : Key → ℕ → Entry → Type 0
   IsOf key count entry = (entry.0 ≡ key) × (length entry.1 ≡ count)
 
@@ -93,21 +93,21 @@ module _ (others : List Entry) where
           let same = sym is.0.has_index in
           (subst IsFreeIndex same free, subst (λ (i : ℕ). HasIndex i entry) same is)
 
--- ---- entries behind others, and sets
+-- ---- entries after others, and sets
 
--- entries of which each is allowed by those before it
+-- entries each of which is allowed after those before it
 abbrev pub AreNext : List Entry → List Entry → Type 0
 AreNext others [] = Unit {0}
 AreNext others (entry ∷ more) = IsNext others entry × AreNext (others ++ entry ∷ []) more
 
--- so many of them
+-- this number of such entries
 abbrev pub AreSoMany : ℕ → List Entry → List Entry → Type 0
 AreSoMany count others more = (length more ≡ count) × AreNext others more
 
 abbrev all_octets : List Entry → List ℕ
 all_octets entries = flat_map entry_octets entries
 
--- the reading of the entries behind one
+-- the reading of the entries after one
 abbrev behind : ℕ → List Entry → Entry → Reading (List Entry)
 behind count others entry = joined (λ (more : List Entry). entry ∷ more) (entries_at count (others ++ entry ∷ []))
 
@@ -169,7 +169,7 @@ entries_read (suc count) others =
 
 -- ---- sets
 
--- entries that a set may have are each allowed by those before it
+-- entries of a set are each allowed after those before them
 are_next : (others more : List Entry) → AreEntries (others ++ more) → AreNext others more
 are_next others [] are = tt
 are_next others (entry ∷ more) are =
@@ -179,7 +179,7 @@ are_next others (entry ∷ more) are =
     let fits : IsLength others (length entry.1) = record { short = may.1.short; fits = may.1.fits } in
     ((free, (new, fits)), are_next (others ++ entry ∷ []) more (subst AreEntries (sym (append_assoc others (entry ∷ []) more)) are))
 
--- and the other way round
+-- and conversely
 are_entries : (others more : List Entry) → AreEntries others → AreNext others more → AreEntries (others ++ more)
 are_entries others [] are next = subst AreEntries (sym (append-nil others)) are
 are_entries others (entry ∷ more) are next =
@@ -219,7 +219,7 @@ head_reads =
     (both_reads _ _ _ _ _ _ (field_reads _ _ _ device_reads)
     (both_reads _ _ _ _ _ _ (field_reads _ _ _ checksum_reads) (field_reads _ _ _ count_reads))))
 
--- a set whose numbers are these
+-- a set with these numbers
 abbrev HasHead : SetHead → SetValue → Type 0
 HasHead head set = (entries : List Entry) × (set ≡ set_with head entries) × AreSoMany head.count [] entries
 
@@ -276,6 +276,6 @@ length-all_octets (entry ∷ entries) =
       sum_by-append (λ (e : Entry). ENTRY_HEAD_OCTETS + length e.1) (entry ∷ []) entries,
     )
 
--- a set has twelve octets, and those that its entries count
+-- a set has twelve octets and those that its entries count
 pub length-set_octets : (set : SetValue) → length (set_octets set) ≡ 12 + octets_of set.entries
 length-set_octets set = omega (arith, length-all_octets set.entries)

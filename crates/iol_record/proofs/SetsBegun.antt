@@ -1,4 +1,4 @@
--- A fault at a set of a port is the fault of both, or memory that was short once the first of them had begun.
+-- A fault at a set of a port is the fault of both, or memory that ran out after the first of them had begun.
 use Rattle.std.proofs.Common.{◌≡◌, Bool, true, false, List, ℕ, Option, Some, None, Result, Ok, Err, refl, sym, subst, ap}
 use Rattle.std.specs.Prelude.{IfSome, IsOk}
 use Rattle.iol_types.specs.declared.config.PortConfig.{PortConfig}
@@ -20,7 +20,7 @@ read_as read = Ok read
 same_read : (one two : SetRead) → read_as one ≡ read_as two → one ≡ two
 same_read one two is = cc
 
--- what is read of a configuration and a set is not nothing
+-- what is read of a configuration and a set is a stored set
 abbrev with_set : (PortConfig × SetValue) × List ℕ → Result SetRead RecordFault
 with_set parts = Ok (Some (record { set = parts.0.1; recorded = parts.0.0 }), parts.1)
 
@@ -34,7 +34,7 @@ some_read (Ok parts) rest is =
 some_read (Err fault) rest is = cc
 
 module _ (version : Version) (octets : List ℕ) where
-  -- where the stored set has begun, the first one has
+  -- if the stored set has begun, the first one has
   stored-begun : IsOk (flagged_begun_at version octets) → IsOk (sets_begun_at version octets)
   unfolding stored_begun_at first_begun_at
   stored-begun is = by (field_at flag_field octets) is
@@ -45,7 +45,7 @@ module _ (version : Version) (octets : List ℕ) where
       by (Ok (false, rest)) is = let never = is in cc
       by (Err fault) is = is
 
-  -- and so it has where none is stored, and the previous set has begun
+  -- and so it has if none is stored and the previous set has begun
   previous-begun : (rest : List ℕ) → flagged_at version octets ≡ Ok (None, rest) → IsOk (previous_begun_at version rest)
       → IsOk (sets_begun_at version octets)
   unfolding stored_at first_begun_at
@@ -67,7 +67,7 @@ module _ (version : Version) (octets : List ℕ) where
   fault_at_stored BadTag is = rw is refl
   fault_at_stored BadField is = rw is refl
 
-  -- a fault at the previous one, behind what is stored
+  -- a fault at the previous set, after the stored one was read
   pub fault_at_previous : (stored : Option Stored) (rest : List ℕ) (fault : RecordFault) → flagged_at version octets ≡ Ok (stored, rest)
       → IfSome stored (λ _. IsOk (flagged_begun_at version octets))
       → IsReadFault (previous_begun_at version rest) fault (previous_at version rest)

@@ -27,12 +27,12 @@ abbrev pub numbers_octets : PortConfig → List ℕ
 numbers_octets config =
     mode_octet config.mode ∷ validation_octet config.validation ∷ (to_be_bytes w16 config.vendor ++ to_be_bytes w32 config.device)
 
--- the octets of a label in a version: none in version 1, and in version 2 its length 1, and its own (format, Records)
+-- the octets of a label in a version: none in version 1; in version 2 its length 1, and its octets (format, Records)
 abbrev pub label_octets : Version → List ℕ → List ℕ
 label_octets One label = []
 label_octets Two label = length label ∷ label
 
--- version 1 spells no label: there it is empty (format, Records)
+-- a version spells a label: in version 1 only the empty one (format, Records)
 abbrev pub SpellsLabel : Version → List ℕ → Type 0
 SpellsLabel One label = label ≡ []
 SpellsLabel Two label = Unit {0}
@@ -55,25 +55,25 @@ command_octets version (Clear port) = CLEAR ∷ port ∷ []
 command_octets version (Store port revision set) = STORE ∷ port ∷ (to_be_bytes w64 revision ++ set_octets set)
 command_octets version (Rollback port) = ROLLBACK ∷ port ∷ []
 
--- the octets of what a port has stored: a flag 1, and where there is a set, the configuration that it was taken under
--- and the set (format, Records)
+-- the octets of the stored set of a port: flag 1 and, if there is a set, the configuration that it was taken under and
+-- the set (format, Records)
 abbrev pub stored_octets : Version → Option Stored → List ℕ
 stored_octets version None = NO_SET ∷ []
 stored_octets version (Some stored) = SET ∷ (config_octets version stored.recorded ++ set_octets stored.set)
 
--- the octets of what a port had stored before, which version 1 has not: flag, configuration and set, as those of what
--- it has stored (format, Records)
+-- the octets of the previous set of a port, which version 1 does not have: flag, configuration and set, as for the
+-- stored set (format, Records)
 abbrev pub previous_octets : Version → Option Stored → List ℕ
 previous_octets One previous = []
 previous_octets Two previous = stored_octets Two previous
 
--- the octets of a port: configuration, revision 8, what it has stored, and what it had stored before (format, Records)
+-- the octets of a port: configuration, revision 8, stored set, and previous set (format, Records)
 abbrev pub port_octets : Version → Port → List ℕ
 port_octets version port =
     config_octets version port.config
     ++ (to_be_bytes w64 port.revision ++ (stored_octets version port.stored ++ previous_octets version port.previous))
 
--- the most octets that a port has (format, Records)
+-- the maximum number of octets of a port's record (format, Records)
 abbrev pub largest_port_record : Version → ℕ
 largest_port_record One = LARGEST_PORT_RECORD_OF_ONE
 largest_port_record Two = LARGEST_PORT_RECORD_OF_TWO
@@ -83,7 +83,7 @@ abbrev pub SpellsRollback : Version → Type 0
 SpellsRollback One = ⊥
 SpellsRollback Two = Unit {0}
 
--- a version spells a command: the label that it gives a port, if it gives one, or a Rollback (format, Records)
+-- a version spells a command: the label of a Configure, or a Rollback (format, Records)
 abbrev pub SpellsCommand : Version → CommandValue → Type 0
 SpellsCommand version (Configure port config) = SpellsLabel version config.label
 SpellsCommand version (Clear port) = Unit {0}
@@ -95,8 +95,8 @@ abbrev pub SpellsPrevious : Version → Option Stored → Type 0
 SpellsPrevious One previous = previous ≡ None
 SpellsPrevious Two previous = Unit {0}
 
--- a version spells a port: its label, the one under which its set was taken, if it has a set, and its previous set, if
--- it has one (format, Records)
+-- a version spells a port: its label, the label under which its stored set was taken, if it has one, and its previous
+-- set, if it has one (format, Records)
 pub record SpellsPort (version : Version) (port : Port) : Type 0 where
   pub label : SpellsLabel version port.config.label
   pub recorded : IfSome port.stored (λ stored. SpellsLabel version stored.recorded.label)

@@ -1,4 +1,4 @@
-//! Records written.
+//! Encoders of records.
 ghost use Rattle.std.specs.Prelude.{◌≡◌, ◌<◌, ◌≤◌, ◌^◌, ◌∷◌, ◌++◌, [], length, true, Some, OnOk, IfOk, IfSome};
 ghost use Rattle.std.specs.Option.{option_map};
 ghost use Rattle.std.specs.List.{flat_map};
@@ -21,28 +21,29 @@ use crate::version::Version;
 use iol_types::{Command, DataSet, Label, PortConfig, PortId, PortState, StoredSet};
 use std::alloc::{AllocError, Global};
 
-// The octets of a Configure record in front of its label.
+// The number of octets of a Configure record before its label.
 const CONFIGURE_OCTETS: usize = 10;
 
-// The octets of the record of a command that names a port alone: of a Clear, and of a Rollback.
+// The number of octets of a record that names only a port: of a Clear or a Rollback.
 const PORT_COMMAND_OCTETS: usize = 2;
 
-// The octets of a Store record in front of its entries.
+// The number of octets of a Store record before its entries.
 const STORE_OCTETS: usize = 22;
 
-// The octets of the record of a port without a set, its label and the flag of a previous set left out.
+// The number of octets of the record of a port without a set, not counting its label and the flag of a previous set.
 const PORT_OCTETS: usize = 17;
 
-/// The most octets that the record of a command has: a Store of a set that counts 4,096.
+/// The maximum number of octets of a command's record: a Store of a set that counts 4,096.
 pub const LARGEST_COMMAND_RECORD: usize = 4118;
 
-/// The most octets that the record of a port has in version 1: with a set that counts 4,096.
+/// The maximum number of octets of a port's record in version 1: with a set that counts 4,096.
 pub const LARGEST_PORT_RECORD_OF_ONE: usize = 4133;
 
-/// The most octets that the record of a port has in version 2: with two sets that count 4,096 each, and three labels of 32 octets.
+/// The maximum number of octets of a port's record in version 2: with two sets that count 4,096 each, and three labels
+/// of 32 octets.
 pub const LARGEST_PORT_RECORD_OF_TWO: usize = 8349;
 
-// How many octets a previous set that a port has not takes in a version.
+// Octets taken by an absent previous set in a version.
 fn no_previous_octets(version: Version) -> usize
     ensures { result ≤ 1 }
 {
@@ -52,7 +53,7 @@ fn no_previous_octets(version: Version) -> usize
     }
 }
 
-// How many octets a label has in a version.
+// The number of octets that a label takes in a version.
 fn label_octets(version: Version, label: &Label) -> usize
     ensures count { result ≡ length (label_octets version label.now) }
     ensures most { result ≤ 33 }
@@ -102,7 +103,7 @@ fn push_config(
     Ok(())
 }
 
-// The parts of a set are its entries as a record has them.
+// The parts of a set are its entries as they are in a record.
 fn push_entries(octets: &mut Vec<u8>, set: &DataSet) -> Result<(), AllocError>
     ensures { OnOk result (octets.new.items ≡ octets.old.items ++ flat_map entry_octets set.now.entries) }
 {
@@ -165,7 +166,7 @@ fn encode_configure(
     Ok(octets)
 }
 
-// The record of a command that names a port alone.
+// Encodes a command that names only a port.
 fn encode_port_command(alloc: Global, tag: u8, port: PortId) -> Result<Vec<u8>, AllocError>
     ensures { IfOk result (λ octets. (octets.items ≡ tag ∷ port ∷ []) × IsPortNumber port) }
 {
@@ -191,7 +192,7 @@ fn encode_store(
     Ok(octets)
 }
 
-/// How many octets the record of a command has in a version. It takes no memory.
+/// The number of octets of a command's record in a version. It allocates no memory.
 pub fn command_record_octets(version: Version, command: &Command) -> usize
     ensures count { result ≡ length (command_octets version (value_of command.now)) }
     ensures most { result ≤ LARGEST_COMMAND_RECORD }
@@ -204,10 +205,10 @@ pub fn command_record_octets(version: Version, command: &Command) -> usize
     }
 }
 
-/// The record of a command in a version, laid out as at [`decode_command`](crate::decode_command).
+/// Encodes a command in a version, in the layout given at [`decode_command`](crate::decode_command).
 ///
 /// # Errors
-/// `AllocError` where it is out of memory.
+/// `AllocError` if out of memory.
 pub fn encode_command(
     alloc: Global,
     version: Version,
@@ -276,10 +277,10 @@ fn push_previous(
     Ok(())
 }
 
-/// The record of a port in a version, laid out as at [`decode_port`](crate::decode_port).
+/// Encodes a port in a version, in the layout given at [`decode_port`](crate::decode_port).
 ///
 /// # Errors
-/// `AllocError` where it is out of memory.
+/// `AllocError` if out of memory.
 pub fn encode_port(alloc: Global, version: Version, port: &PortState) -> Result<Vec<u8>, AllocError>
     // Version 1 has no labels, and no previous sets.
     requires { SpellsPort version port.now }

@@ -1,5 +1,5 @@
-//! Records with values from outside, worked out by the check: an octet that is wrong in a definition
-//! and in the code alike is refused here.
+//! Records with values from outside, computed by the proof check: an octet that is wrong both in a definition and in
+//! the code is refused here.
 
 ghost use Rattle.std.specs.Prelude.{◌≡◌, ◌++◌, [], ◌∷◌, false, true, Some, None, Ok, Err, IsOk, map, replicate, slice_set, take, drop};
 ghost use Rattle.std.specs.Prelude.{codes, length};
@@ -24,7 +24,7 @@ use iol_types::{PortMode, Validation};
 /// The record of Configure port 1: IOL_MANUAL, Backup and Restore, vendor 500, device 43981.
 pub const CONFIGURE_RECORD: [u8; 10] = [0x01, 0x01, 0x01, 0x03, 0x01, 0xF4, 0x00, 0x00, 0xAB, 0xCD];
 
-/// The record of a port that was never configured: 16 zeros, and the flag of no parameter set.
+/// The record of a port that was never configured: 16 zeros, and the flag of an absent parameter set.
 pub const BLANK_RECORD: [u8; 17] = [0x00; 17];
 
 /// The record of a port with the configuration of [`CONFIGURE_RECORD`], revision 1, and no parameter
@@ -73,7 +73,7 @@ pub const PORT_RECORD_OF_TWO: [u8; 19] = [
     0x01, 0x00, 0x00,
 ];
 
-/// The record of Rollback port 1, which version 1 has not.
+/// The record of Rollback port 1, which version 1 does not have.
 pub const ROLLBACK_RECORD: [u8; 2] = [0x04, 0x01];
 
 /// [`PORT_WITH_SET_RECORD`] in version 2.
@@ -84,8 +84,8 @@ pub const PORT_WITH_SET_RECORD_OF_TWO: [u8; 51] = [
     0x01, 0x7F, 0x00,
 ];
 
-/// The record in version 2 of a port as in [`PORT_RECORD`], with a set in which 0041.01 is 80, and the set
-/// of [`STORE_RECORD`] as its previous one, both taken under the same configuration.
+/// The record in version 2 of a port as in [`PORT_RECORD`], with a set in which 0041.01 is 80, and the set of
+/// [`STORE_RECORD`] as its previous one, both taken under the same configuration.
 pub const PORT_WITH_PREVIOUS_RECORD: [u8; 83] = [
     0x01, 0x03, 0x01, 0xF4, 0x00, 0x00, 0xAB, 0xCD, 0x00, 0x00, 0x00, 0x00, 0x00, 0x00, 0x00, 0x00,
     0x01, 0x01, 0x01, 0x03, 0x01, 0xF4, 0x00, 0x00, 0xAB, 0xCD, 0x00, 0x01, 0xF4, 0x00, 0x00, 0xAB,
@@ -95,14 +95,14 @@ pub const PORT_WITH_PREVIOUS_RECORD: [u8; 83] = [
     0x01, 0x01, 0x7F,
 ];
 
-/// [`CONFIGURE_RECORD`] is the record of its command, and is read as it.
+/// [`CONFIGURE_RECORD`] is the record of its command, and decodes to it.
 #[tactic(auto, unfolding(crate::specs::Reading::command_at, crate::specs::Reading::arguments_at, crate::specs::Reading::config_at, crate::specs::Reading::label_at))]
 pub fn a_configure_record()
     ensures written { IsCommandRecord One CONFIGURE_RECORD (Configure 1 example_config) }
     ensures read { command_at One CONFIGURE_RECORD ≡ Ok (Configure 1 example_config, []) }
 {}
 
-/// [`BLANK_RECORD`] and [`PORT_RECORD`] are the records of their ports, and are read as them.
+/// [`BLANK_RECORD`] and [`PORT_RECORD`] are the records of their ports, and decode to them.
 #[tactic(auto, unfolding(crate::specs::Reading::port_record_at, crate::specs::Reading::port_parts_at, crate::specs::Reading::stored_at, crate::specs::Reading::previous_at, crate::specs::Reading::config_at, crate::specs::Reading::label_at))]
 pub fn port_records()
     ensures blank_written { IsPortRecord One BLANK_RECORD blank }
@@ -112,8 +112,8 @@ pub fn port_records()
         ≡ Ok (port_of example_config 1, []) }
 {}
 
-/// [`CONFIGURE_RECORD`] with one field out of its range: the tag is 04, the port 0 or 33, the mode 5,
-/// the validation 5, the device 01 00 AB CD.
+/// [`CONFIGURE_RECORD`] is refused with one field out of its range: the tag 04, the port 0 or 33, the mode 5, the
+/// validation 5, the device 01 00 AB CD.
 #[tactic(auto, unfolding(crate::specs::Reading::command_at, crate::specs::Reading::arguments_at, crate::specs::Reading::config_at, crate::specs::Reading::label_at))]
 pub fn commands_out_of_range()
     ensures tag { command_at One (slice_set CONFIGURE_RECORD 0 0x04) ≡ Err RecordFault.BadTag }
@@ -151,7 +151,7 @@ pub fn largest_records()
     ensures rollback { length (command_octets Two (Rollback 32)) ≡ 2 }
 {}
 
-/// [`CLEAR_RECORD`] and [`STORE_RECORD`] are read as their commands, and are what these are written as.
+/// [`CLEAR_RECORD`] and [`STORE_RECORD`] decode to their commands, and are what these are encoded as.
 #[tactic(auto, unfolding(crate::specs::Reading::command_at, crate::specs::Reading::arguments_at, crate::specs::Reading::set_at, crate::specs::Reading::set_head_at, crate::specs::Reading::entry_at))]
 pub fn clear_and_store_records()
     ensures clear_written { CLEAR_RECORD ≡ command_octets One (Clear 1) }
@@ -160,15 +160,15 @@ pub fn clear_and_store_records()
     ensures store_read { command_at One STORE_RECORD ≡ Ok (Store 1 1 example_set, []) }
 {}
 
-/// [`PORT_WITH_SET_RECORD`] is read as its port, and is what that is written as.
+/// [`PORT_WITH_SET_RECORD`] decodes to its port, and is what that port is encoded as.
 #[tactic(auto, unfolding(crate::specs::Reading::port_record_at, crate::specs::Reading::port_parts_at, crate::specs::Reading::stored_at, crate::specs::Reading::previous_at, crate::specs::Reading::config_at, crate::specs::Reading::label_at, crate::specs::Reading::set_at, crate::specs::Reading::set_head_at, crate::specs::Reading::entry_at))]
 pub fn a_port_with_a_set()
     ensures written { PORT_WITH_SET_RECORD ≡ port_octets One example_port }
     ensures read { port_record_at One PORT_WITH_SET_RECORD ≡ Ok (example_port, []) }
 {}
 
-/// [`STORE_RECORD`] with one field out of its range: the device is 01 00 AB CD, an Index 0003, a length
-/// 233; and a double key, which is found at its Subindex.
+/// [`STORE_RECORD`] is refused with one field out of its range: the device 01 00 AB CD, an Index 0003, a length of 233;
+/// and with a duplicate key, which is found at its Subindex.
 #[tactic(auto, unfolding(crate::specs::Reading::command_at, crate::specs::Reading::arguments_at, crate::specs::Reading::set_at, crate::specs::Reading::set_head_at, crate::specs::Reading::entry_at))]
 pub fn stores_out_of_range()
     ensures device { command_at One (slice_set STORE_RECORD 12 0x01) ≡ Err RecordFault.BadField }
@@ -178,9 +178,8 @@ pub fn stores_out_of_range()
     ensures cut_off { command_at One (take 32 STORE_RECORD) ≡ Err RecordFault.Short }
 {}
 
-/// [`PORT_WITH_SET_RECORD`] under a configuration that may not have the set: another vendor, device or
-/// mode, no check; a set taken under Restore or in another mode, a set of another vendor or device. Under
-/// Restore it may have it.
+/// [`PORT_WITH_SET_RECORD`] is refused if the port may not have the set: another vendor, device or mode, no check; a
+/// set taken under Restore or in another mode, a set of another vendor or device. Under Restore the port may have it.
 #[tactic(auto, unfolding(crate::specs::Reading::port_record_at, crate::specs::Reading::port_parts_at, crate::specs::Reading::stored_at, crate::specs::Reading::previous_at, crate::specs::Reading::config_at, crate::specs::Reading::label_at, crate::specs::Reading::set_at, crate::specs::Reading::set_head_at, crate::specs::Reading::entry_at))]
 pub fn ports_without_right_to_their_set()
     ensures vendor { port_record_at One (slice_set PORT_WITH_SET_RECORD 3 0xF5) ≡ Err RecordFault.BadField }
@@ -198,7 +197,7 @@ pub fn ports_without_right_to_their_set()
         ) }
 {}
 
-/// Each field, at its least and greatest number and at those beside them.
+/// Each field is read at its least and greatest number, and at those beside them.
 pub fn borders_of_fields()
     ensures tag { map (λ n. field_at (tag_field One) (n ∷ [])) (0 ∷ 1 ∷ 2 ∷ 3 ∷ 4 ∷ [])
         ≡ Err RecordFault.BadTag ∷ Ok (tag.Configure, []) ∷ Ok (tag.Clear, []) ∷ Ok (tag.Store, []) ∷ Err RecordFault.BadTag ∷ [] }
@@ -217,7 +216,7 @@ pub fn borders_of_fields()
         ≡ Ok (false, []) ∷ Ok (true, []) ∷ Err RecordFault.BadField ∷ [] }
 {}
 
-/// A vendor, a revision, a checksum and a count are any numbers of 2, 8, 4 and 2 octets.
+/// A vendor, a revision, a checksum and a count may be any number of 2, 8, 4 and 2 octets.
 pub fn fields_of_any_number()
     ensures vendor { field_at vendor_field (replicate 2 0xFF) ≡ Ok (65535, []) }
     ensures revision { field_at revision_field (replicate 8 0xFF) ≡ Ok (18446744073709551615, []) }
@@ -225,8 +224,8 @@ pub fn fields_of_any_number()
     ensures count { field_at count_field (replicate 2 0xFF) ≡ Ok (65535, []) }
 {}
 
-/// The fields of an entry: an Index that is not reserved, a Subindex that makes a new key, a length of
-/// 232 at most and with which the set counts 4,096 at most.
+/// The fields of an entry are an Index that is not reserved, a Subindex that makes a new key, and a length of at most
+/// 232 with which the set counts at most 4,096.
 pub fn fields_of_entries()
     ensures index { map (λ n. field_at index_field (0 ∷ n ∷ [])) (0 ∷ 1 ∷ 2 ∷ 3 ∷ 4 ∷ []) ≡ Err RecordFault.BadField
         ∷ Ok (1, []) ∷ Err RecordFault.BadField ∷ Err RecordFault.BadField ∷ Ok (4, []) ∷ [] }
@@ -238,8 +237,8 @@ pub fn fields_of_entries()
     ensures too_large { field_at (length_field nearly_full) (81 ∷ []) ≡ Err RecordFault.BadField }
 {}
 
-/// Fields are judged from left to right: a tag before the port behind it, and each field before what is
-/// missing behind it.
+/// Fields are judged from left to right: a tag before the port after it, and each field before what is missing after
+/// it.
 #[tactic(auto, unfolding(crate::specs::Reading::command_at, crate::specs::Reading::arguments_at, crate::specs::Reading::port_record_at, crate::specs::Reading::port_parts_at, crate::specs::Reading::stored_at, crate::specs::Reading::previous_at, crate::specs::Reading::config_at, crate::specs::Reading::label_at, crate::specs::Reading::set_at, crate::specs::Reading::set_head_at))]
 pub fn faults_from_the_left()
     ensures tag { command_at One (0x04 ∷ 0x00 ∷ []) ≡ Err RecordFault.BadTag }
@@ -262,9 +261,9 @@ pub fn octets_behind_a_record()
         ≡ Ok (port_of example_config 1, 0xFF ∷ []) }
 {}
 
-/// Memory may run out in a Store and in a port's record from the whole of the first entry on, which ends
-/// at octets 28 and 43, and not before; without a set it does not. In a port with a previous set alone that one is
-/// looked at.
+/// Memory may run out in a Store and in a port's record once the first entry is complete, which ends at octets 28 and
+/// 43, and not before; without a set it does not. In a port with only a previous set, the first entry of that set is
+/// meant.
 #[tactic(auto, unfolding(crate::specs::Reading::store_begun_at, crate::specs::Reading::begun_behind, crate::specs::Reading::port_begun_at, crate::specs::Reading::first_begun_at, crate::specs::Reading::previous_begun_at, crate::specs::Reading::stored_begun_at, crate::specs::Reading::set_begun_at, crate::specs::Reading::config_at, crate::specs::Reading::label_at, crate::specs::Reading::set_head_at, crate::specs::Reading::entry_at))]
 pub fn records_that_take_memory()
     ensures store { IsOk (store_begun_at One (take 28 STORE_RECORD)) }
@@ -283,8 +282,8 @@ pub fn records_that_take_memory()
         ≡ Err RecordFault.Short }
 {}
 
-/// In version 2 a configuration has its label, here none, and a port the flag of its previous set, here none; Clear and Store are as in
-/// version 1.
+/// In version 2 a configuration has its label, here an empty one, and a port has the flag of its previous set, here
+/// absent; Clear and Store are as in version 1.
 #[tactic(auto, unfolding(crate::specs::Reading::command_at, crate::specs::Reading::arguments_at, crate::specs::Reading::port_record_at, crate::specs::Reading::port_parts_at, crate::specs::Reading::stored_at, crate::specs::Reading::previous_at, crate::specs::Reading::config_at, crate::specs::Reading::label_at, crate::specs::Reading::set_at, crate::specs::Reading::set_head_at, crate::specs::Reading::entry_at))]
 pub fn records_of_two()
     ensures configure { CONFIGURE_RECORD_OF_TWO ≡ command_octets Two (Configure 1 example_config) }
@@ -299,8 +298,8 @@ pub fn records_of_two()
     ensures with_set_read { port_record_at Two PORT_WITH_SET_RECORD_OF_TWO ≡ Ok (example_port, []) }
 {}
 
-/// The label of a configuration in version 2, and the flag of a previous set, have to be there; a record of one version is none of
-/// the other.
+/// In version 2 the label of a configuration and the flag of a previous set must be present; a record of one version is
+/// not a record of the other.
 #[tactic(auto, unfolding(crate::specs::Reading::command_at, crate::specs::Reading::arguments_at, crate::specs::Reading::port_record_at, crate::specs::Reading::port_parts_at, crate::specs::Reading::stored_at, crate::specs::Reading::previous_at, crate::specs::Reading::config_at, crate::specs::Reading::label_at, crate::specs::Reading::set_at, crate::specs::Reading::set_head_at, crate::specs::Reading::entry_at))]
 pub fn versions_apart()
     ensures command { command_at Two (slice_set CONFIGURE_RECORD_OF_TWO 10 0x01) ≡ Err RecordFault.Short }
@@ -312,8 +311,8 @@ pub fn versions_apart()
     ensures port_of_two { port_record_at One PORT_RECORD_OF_TWO ≡ Err RecordFault.Short }
 {}
 
-/// [`LABELLED_RECORD`] is read as its command, and is what that is written as. A label of 33 octets is refused, and one with an
-/// octet that may not stand in it, but a record that ends before its label does is short.
+/// [`LABELLED_RECORD`] decodes to its command, and is what that command is encoded as. A label of 33 octets is refused,
+/// and so is one with an octet that is not allowed, but a record that ends before its label does is short.
 #[tactic(auto, unfolding(crate::specs::Reading::command_at, crate::specs::Reading::arguments_at, crate::specs::Reading::config_at, crate::specs::Reading::label_at))]
 pub fn labels_of_records()
     ensures written { LABELLED_RECORD ≡ command_octets Two (Configure 1 (record example_config { label = codes "Pump 3" })) }
@@ -330,7 +329,8 @@ pub fn labels_of_records()
     ensures not_in_one { ¬ IsCommandRecord One CONFIGURE_RECORD (Configure 1 (record example_config { label = codes "Pump 3" })) }
 {}
 
-/// [`ROLLBACK_RECORD`] is read as its command in version 2, and is what that is written as; in version 1 its tag is none.
+/// [`ROLLBACK_RECORD`] decodes to its command in version 2, and is what that command is encoded as; version 1 does not
+/// have its tag.
 #[tactic(auto, unfolding(crate::specs::Reading::command_at, crate::specs::Reading::arguments_at))]
 pub fn a_rollback_record()
     ensures written { IsCommandRecord Two ROLLBACK_RECORD (Rollback 1) }
@@ -344,8 +344,8 @@ pub fn a_rollback_record()
     ensures not_in_one { ¬ IsCommandRecord One ROLLBACK_RECORD (Rollback 1) }
 {}
 
-/// [`PORT_WITH_PREVIOUS_RECORD`] is read as its port, and is what that is written as. Its last 33 octets are a flag, which is 00 or
-/// 01, a configuration and a set.
+/// [`PORT_WITH_PREVIOUS_RECORD`] decodes to its port, and is what that port is encoded as. Its last 33 octets are a
+/// flag, which is 00 or 01, a configuration and a set.
 #[tactic(auto, unfolding(crate::specs::Reading::port_record_at, crate::specs::Reading::port_parts_at, crate::specs::Reading::stored_at, crate::specs::Reading::previous_at, crate::specs::Reading::config_at, crate::specs::Reading::label_at, crate::specs::Reading::set_at, crate::specs::Reading::set_head_at, crate::specs::Reading::entry_at))]
 pub fn a_port_with_a_previous_set()
     ensures written { PORT_WITH_PREVIOUS_RECORD ≡ port_octets Two renewed_port }
@@ -358,13 +358,14 @@ pub fn a_port_with_a_previous_set()
         ≡ replicate 4 (Err RecordFault.Short) }
 {}
 
-/// [`PORT_WITH_PREVIOUS_RECORD`] with a previous set that may not stand there: alone; taken under Restore; of another vendor; of a
-/// device out of its range. And with such a present set before a good previous one.
+/// [`PORT_WITH_PREVIOUS_RECORD`] is refused with a previous set that the port may not have: one without a present set,
+/// taken under Restore, of another vendor, or of a device out of its range. It is also refused with a present set taken
+/// under Restore before a valid previous one.
 #[tactic(auto, unfolding(crate::specs::Reading::port_record_at, crate::specs::Reading::port_parts_at, crate::specs::Reading::stored_at, crate::specs::Reading::previous_at, crate::specs::Reading::config_at, crate::specs::Reading::label_at, crate::specs::Reading::set_at, crate::specs::Reading::set_head_at, crate::specs::Reading::entry_at))]
 pub fn previous_sets_without_right()
     ensures alone { port_record_at Two (take 17 PORT_WITH_PREVIOUS_RECORD ++ 0x00 ∷ drop 50 PORT_WITH_PREVIOUS_RECORD)
         ≡ Err RecordFault.BadField }
-    // It is so at the end of the record alone.
+    // This is judged only at the end of the record.
     ensures alone_cut_off { port_record_at Two (take 45 (take 17 PORT_WITH_PREVIOUS_RECORD ++ 0x00 ∷ drop 50 PORT_WITH_PREVIOUS_RECORD))
         ≡ Err RecordFault.Short }
     ensures recorded { port_record_at Two (slice_set PORT_WITH_PREVIOUS_RECORD 52 0x04) ≡ Err RecordFault.BadField }

@@ -1,16 +1,16 @@
 //! Commands and ports as octets.
 //!
-//! A record is what stands on a disk for one command, or for one port of a state. The encoders
-//! write the one spelling of a value; the decoders read a record from the front of some octets, say
-//! how many octets it has, and leave what follows unread. What a record is stands in
-//! `specs/Record.antt`; what a decoder answers to any octets, in `specs/Reading.antt`.
+//! A record is the octets on a disk for one command, or for one port of a state. The encoders write the one
+//! spelling of a value; the decoders read a record from the front of some octets, return how many octets it
+//! has, and leave the rest unread. `specs/Record.antt` defines records; `specs/Reading.antt` defines what a
+//! decoder returns for any octets.
 //!
-//! A record is spelled by the [`Version`] of the layout that it stands in.
+//! The spelling of a record follows the [`Version`] of the layout that it is in.
 //!
-//! Modules in reading order: `version`, `fault`, `reader` (fields), `records` (sets, commands and ports), `decode`, `reach`
-//! (how far a record goes), `encode`, `laws`, `examples` (records worked out).
+//! Modules in reading order: `version`, `fault`, `reader` (fields), `records` (sets, commands and ports),
+//! `decode`, `reach` (where a record ends), `encode`, `laws`, `examples` (worked examples).
 //!
-//! Proofs of other crates cite the laws of `proofs/RecordLaws.antt`.
+//! Proofs of other crates use the laws of `proofs/RecordLaws.antt`.
 #![tactic(auto)]
 
 mod decode;

@@ -1,18 +1,19 @@
-//! How far a record goes, by its lengths alone.
+//! Where a record ends, by its lengths alone.
 
 use crate::fault::RecordFault;
 use crate::reader::Reader;
 use crate::version::Version;
 use iol_types::ENTRY_HEAD_OCTETS;
 
-/// Whether these octets end within the record of a port that stands in front, as its lengths tell. Whether its fields are in range is
-/// judged of some alone, so that it is soon told: who reads a record from sectors asks this first, and then decodes it once.
+/// Whether these octets end within the record of a port at their front, judged by its lengths. Only some fields are
+/// checked for their ranges, which keeps this fast: a caller that reads a record from sectors calls it first, and then
+/// decodes the record once.
 pub fn port_goes_on(version: Version, octets: &[u8]) -> bool {
     Reader::new(octets).pass_port(version) == Err(RecordFault::Short)
 }
 
 impl<'a> Reader<'a> {
-    // Goes past the record of a port.
+    // Skips the record of a port.
     fn pass_port(&mut self, version: Version) -> Result<(), RecordFault> {
         let _config = self.config(version)?;
         let _revision = self.revision()?;
@@ -23,7 +24,7 @@ impl<'a> Reader<'a> {
         }
     }
 
-    // Goes past what a port has stored, by its flag.
+    // Skips the flag of a set of a port, and the set if there is one.
     fn pass_stored(&mut self, version: Version) -> Result<(), RecordFault> {
         if !self.has_set()? {
             return Ok(());
@@ -36,7 +37,7 @@ impl<'a> Reader<'a> {
         Ok(())
     }
 
-    // Goes past an entry.
+    // Skips an entry.
     fn pass_entry(&mut self) -> Result<(), RecordFault> {
         let [_, _, _, length] = self.front::<ENTRY_HEAD_OCTETS>()?;
         let _octets = self.octets(usize::from(length))?;

@@ -1,4 +1,4 @@
-//! The fields of records, each read from the front of the octets that are left.
+//! Readers of the fields of records, each from the front of the octets that are left.
 ghost use Rattle.std.specs.Prelude.{◌≡◌, ◌≤◌, ◌^◌, ◌<◌, List, length, take, drop, IfOk, IfErr, OnOk};
 ghost use Rattle.std.specs.Int.{w8};
 ghost use Rattle.iol_record.specs.Reading.{Reads, next_number, octets_at, field_at, tag_field, port_field, mode_field, validation_field};
@@ -25,13 +25,13 @@ pub(crate) const STORE: u8 = 3;
 // The tag of a Rollback record.
 pub(crate) const ROLLBACK: u8 = 4;
 
-// The flag of a parameter set that a port has not.
+// The flag of an absent parameter set of a port.
 pub(crate) const NO_SET: u8 = 0;
 
-// The flag of a parameter set that a port has, which follows.
+// The flag of a parameter set that a port has; the set follows.
 pub(crate) const SET: u8 = 1;
 
-// The kind of a command, as its tag says.
+// The kind of a command, given by its tag.
 #[derive(Clone, Copy)]
 pub(crate) enum Tag {
     Configure,
@@ -55,21 +55,21 @@ impl<'a> Model for Reader<'a> {
 }
 
 impl<'a> Reader<'a> {
-    // Reads these octets from their front.
+    // Makes a reader of these octets, at their front.
     pub(crate) fn new(octets: &'a [u8]) -> Self
         ensures { result ≡ octets.now }
     {
         Reader { rest: octets }
     }
 
-    // How many octets are left.
+    // The number of octets that are left.
     pub(crate) fn len(&self) -> usize
         ensures { result ≡ length self.now }
     {
         self.rest.len()
     }
 
-    // The next `N` octets.
+    // Reads the next `N` octets.
     pub(crate) fn front<const N: usize>(&mut self) -> Result<[u8; N], RecordFault>
         ensures front { IfOk result (λ front. (N ≤ length self.old) × (front ≡ take N self.old)) }
         ensures rest { OnOk result (self.new ≡ drop N self.old) }
@@ -89,7 +89,7 @@ impl<'a> Reader<'a> {
         Ok(u8::from_be_bytes(self.front()?))
     }
 
-    // The tag of a command; version 1 has no Rollback.
+    // Reads the tag of a command; version 1 has no Rollback.
     pub(crate) fn tag(&mut self, version: Version) -> Result<Tag, RecordFault>
         ensures { Reads (λ tag. (tag, self.new)) result (field_at (tag_field version) self.old) }
     {
@@ -102,42 +102,42 @@ impl<'a> Reader<'a> {
         }
     }
 
-    // A port, 1 to 32.
+    // Reads a port, 1 to 32.
     pub(crate) fn port(&mut self) -> Result<PortId, RecordFault>
         ensures { Reads (λ port. (port, self.new)) result (field_at port_field self.old) }
     {
         PortId::new(self.octet()?).ok_or(RecordFault::BadField)
     }
 
-    // A mode, 0 to 4.
+    // Reads a mode, 0 to 4.
     fn mode(&mut self) -> Result<PortMode, RecordFault>
         ensures { Reads (λ mode. (mode, self.new)) result (field_at mode_field self.old) }
     {
         PortMode::from_octet(self.octet()?).ok_or(RecordFault::BadField)
     }
 
-    // A validation, 0 to 4.
+    // Reads a validation, 0 to 4.
     fn validation(&mut self) -> Result<Validation, RecordFault>
         ensures { Reads (λ validation. (validation, self.new)) result (field_at validation_field self.old) }
     {
         Validation::from_octet(self.octet()?).ok_or(RecordFault::BadField)
     }
 
-    // A VendorID, two octets.
+    // Reads a VendorID, two octets.
     pub(crate) fn vendor(&mut self) -> Result<u16, RecordFault>
         ensures { Reads (λ vendor. (vendor, self.new)) result (field_at vendor_field self.old) }
     {
         Ok(u16::from_be_bytes(self.front()?))
     }
 
-    // A DeviceID, four octets of which the first is 0.
+    // Reads a DeviceID, four octets of which the first is 0.
     pub(crate) fn device(&mut self) -> Result<DeviceId, RecordFault>
         ensures { Reads (λ device. (device, self.new)) result (field_at device_field self.old) }
     {
         DeviceId::new(u32::from_be_bytes(self.front()?)).ok_or(RecordFault::BadField)
     }
 
-    // How many octets a label has, 0 to 32.
+    // Reads the length of a label, 0 to 32 octets.
     fn label_length(&mut self) -> Result<usize, RecordFault>
         ensures { Reads (λ count. (count, self.new)) result (field_at label_length_field self.old) }
     {
@@ -149,28 +149,28 @@ impl<'a> Reader<'a> {
         }
     }
 
-    // A revision, eight octets.
+    // Reads a revision, eight octets.
     pub(crate) fn revision(&mut self) -> Result<u64, RecordFault>
         ensures { Reads (λ revision. (revision, self.new)) result (field_at revision_field self.old) }
     {
         Ok(u64::from_be_bytes(self.front()?))
     }
 
-    // A checksum, four octets.
+    // Reads a checksum, four octets.
     pub(crate) fn checksum(&mut self) -> Result<u32, RecordFault>
         ensures { Reads (λ checksum. (checksum, self.new)) result (field_at checksum_field self.old) }
     {
         Ok(u32::from_be_bytes(self.front()?))
     }
 
-    // A count of entries, two octets.
+    // Reads a count of entries, two octets.
     pub(crate) fn count(&mut self) -> Result<u16, RecordFault>
         ensures { Reads (λ count. (count, self.new)) result (field_at count_field self.old) }
     {
         Ok(u16::from_be_bytes(self.front()?))
     }
 
-    // The flag of a set of a port: whether it follows.
+    // Reads the flag of a set of a port: whether the set follows.
     pub(crate) fn has_set(&mut self) -> Result<bool, RecordFault>
         ensures { Reads (λ flag. (flag, self.new)) result (field_at flag_field self.old) }
     {
@@ -181,7 +181,7 @@ impl<'a> Reader<'a> {
         }
     }
 
-    // The Index of an entry, which is not reserved.
+    // Reads the Index of an entry, which must not be reserved.
     pub(crate) fn index(&mut self) -> Result<u16, RecordFault>
         ensures { Reads (λ index. (index, self.new)) result (field_at index_field self.old) }
     {
@@ -193,7 +193,7 @@ impl<'a> Reader<'a> {
         }
     }
 
-    // The Subindex of an entry, with which its key is none of those before it.
+    // Reads the Subindex of an entry, which must not make its key equal to one before it.
     pub(crate) fn key(&mut self, index: u16, others: &SetBuilder) -> Result<Key, RecordFault>
         ensures { Reads (λ key. (key, self.new)) result (field_at (subindex_field others.now index) self.old) }
     {
@@ -208,7 +208,7 @@ impl<'a> Reader<'a> {
         }
     }
 
-    // The length of an entry, with which it and those before it make no set that is too large.
+    // Reads the length of an entry, which must not make the set of it and the entries before it too large.
     pub(crate) fn length(&mut self, others: &SetBuilder) -> Result<usize, RecordFault>
         ensures { Reads (λ count. (count, self.new)) result (field_at (length_field others.now) self.old) }
     {
@@ -222,7 +222,7 @@ impl<'a> Reader<'a> {
         }
     }
 
-    // So many octets.
+    // Reads `count` octets.
     pub(crate) fn octets(&mut self, count: usize) -> Result<&'a [u8], RecordFault>
         ensures { Reads (λ octets. (octets.now, self.new)) result (octets_at count self.old) }
     {
@@ -231,7 +231,7 @@ impl<'a> Reader<'a> {
         Ok(octets)
     }
 
-    // A label, which version 1 has not.
+    // Reads a label, which version 1 does not have.
     #[tactic(auto, unfolding(crate::specs::Reading::label_at))]
     fn label(&mut self, version: Version) -> Result<Label, RecordFault>
         ensures read { Reads (λ label. (label, self.new)) result (label_at version self.old) }
@@ -246,7 +246,7 @@ impl<'a> Reader<'a> {
         }
     }
 
-    // A configuration: mode, validation, vendor, device, label.
+    // Reads a configuration: mode, validation, vendor, device, label.
     #[tactic(auto, unfolding(crate::specs::Reading::config_at))]
     pub(crate) fn config(&mut self, version: Version) -> Result<PortConfig, RecordFault>
         ensures read { Reads (λ config. (config, self.new)) result (config_at version self.old) }

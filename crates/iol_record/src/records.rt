@@ -1,4 +1,4 @@
-//! Sets, commands and ports, read from the front of the octets that are left.
+//! Readers of sets, commands and ports, each from the front of the octets that are left.
 ghost use Rattle.std.specs.Prelude.{◌≡◌, ◌∷◌, ◌++◌, [], Ok, IfErr, IfOk, OnOk, IfSome, IsOk, min};
 ghost use Rattle.std.specs.Option.{option_map};
 ghost use Rattle.iol_types.specs.Command.{value_of};
@@ -26,7 +26,7 @@ pub(crate) struct SetHead {
     pub count: u16,
 }
 
-// The sets of a port, before it is known whether they may stand there.
+// The sets of a port, before it is checked whether the port may have them.
 #[derive(Drop)]
 struct PortSets {
     stored: Option<StoredSet>,
@@ -34,7 +34,8 @@ struct PortSets {
 }
 
 impl<'a> Reader<'a> {
-    // An entry, which is put behind the others. There is room then for so many, this one too, if the octets that are left have them.
+    // Reads an entry and appends it to the others. Space is reserved for `left` entries, this one included, or for
+    // fewer if the octets that are left cannot hold that many.
     #[tactic(auto, unfolding(crate::specs::Reading::entry_at))]
     fn entry(&mut self, others: &mut SetBuilder, left: u16) -> Result<(), RecordFault>
         ensures read { OnOk result ((entry : Entry) × (entry_at others.old self.old ≡ Ok (entry, self.new))
@@ -52,7 +53,7 @@ impl<'a> Reader<'a> {
         }
     }
 
-    // So many entries.
+    // Reads `count` entries.
     fn entries(&mut self, alloc: Global, count: u16) -> Result<SetBuilder, RecordFault>
         ensures read { ReadsOrMemory (λ entries. (entries, self.new)) (entries_at (min 1 count) [] self.old) result
             (entries_at count [] self.old) }
@@ -78,7 +79,7 @@ impl<'a> Reader<'a> {
         })
     }
 
-    // A set.
+    // Reads a set.
     #[tactic(auto, unfolding(crate::specs::Reading::set_at, crate::specs::Reading::set_begun_at, crate::specs::Reading::set_head_at))]
     fn set(&mut self, alloc: Global) -> Result<Arc<DataSet>, RecordFault>
         ensures read { ReadsOrMemory (λ set. (set.value, self.new)) (set_begun_at self.old) result (set_at self.old) }
@@ -95,7 +96,7 @@ impl<'a> Reader<'a> {
         }
     }
 
-    // What stands behind the tag of a Store.
+    // Reads what follows the tag of a Store.
     #[tactic(auto, unfolding(crate::specs::Reading::arguments_at, crate::specs::Reading::begun_behind))]
     fn store(&mut self, alloc: Global) -> Result<Command, RecordFault>
         // A Store is spelled the same in every version.
@@ -109,7 +110,7 @@ impl<'a> Reader<'a> {
         })
     }
 
-    // The record of a command.
+    // Reads the record of a command.
     #[tactic(auto, unfolding(crate::specs::Reading::command_at, crate::specs::Reading::store_begun_at, crate::specs::Reading::arguments_at, crate::specs::Reading::begun_behind, crate::specs::Reading::config_at))]
     pub(crate) fn command(
         &mut self,
@@ -130,7 +131,7 @@ impl<'a> Reader<'a> {
         }
     }
 
-    // What a port has stored, by its flag.
+    // Reads the flag of a set of a port, and the set if there is one.
     #[tactic(auto, unfolding(crate::specs::Reading::stored_at, crate::specs::Reading::stored_begun_at, crate::specs::Reading::config_at))]
     fn stored(&mut self, alloc: Global, version: Version) -> Result<Option<StoredSet>, RecordFault>
         ensures read { ReadsOrMemory (λ stored. (option_map stored_of stored, self.new))
@@ -147,7 +148,7 @@ impl<'a> Reader<'a> {
         }))
     }
 
-    // What a port had stored before, which version 1 has not.
+    // Reads the previous set of a port, which version 1 does not have.
     #[tactic(auto, unfolding(crate::specs::Reading::previous_at, crate::specs::Reading::previous_begun_at))]
     fn previous(
         &mut self,
@@ -163,7 +164,7 @@ impl<'a> Reader<'a> {
         }
     }
 
-    // What a port has stored, and what it had stored before.
+    // Reads the stored set of a port, and the previous one.
     fn sets(&mut self, alloc: Global, version: Version) -> Result<PortSets, RecordFault>
         ensures { ReadsOrMemory (λ sets. ((option_map stored_of sets.stored, option_map stored_of sets.previous), self.new))
             (sets_begun_at version self.old) result (both (flagged_at version) (previous_at version) self.old) }
@@ -174,7 +175,7 @@ impl<'a> Reader<'a> {
         })
     }
 
-    // The record of a port.
+    // Reads the record of a port.
     #[tactic(auto, unfolding(crate::specs::Reading::port_record_at, crate::specs::Reading::port_parts_at, crate::specs::Reading::port_begun_at, crate::specs::Reading::config_at))]
     pub(crate) fn port_state(
         &mut self,

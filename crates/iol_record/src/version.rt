@@ -1,14 +1,15 @@
-//! The versions of a disk's layout, by which records are spelled.
+//! The versions of a disk's layout, which determine how records are spelled.
 
 ghost use Rattle.std.specs.Prelude.{◌≡◌};
 ghost use Rattle.iol_record.specs.Record.{newest, is_newest};
 
-/// The version of the layout that a record stands in (docs/FORMATS.md, "Records").
+/// The version of the layout that a record is in (docs/FORMATS.md, "Records").
 #[derive(Clone, Copy)]
 pub enum Version {
-    /// A configuration is its numbers alone, without a label, and a port ends with what it has stored; there is no Rollback.
+    /// A configuration has only its numbers, without a label, and a port ends with its stored set; there is no
+    /// Rollback.
     One,
-    /// Behind the numbers of each configuration stands its label, a port ends with what it had stored before, and a command may be a
+    /// The label of each configuration follows its numbers, a port ends with its previous set, and a command may be a
     /// Rollback.
     Two,
 }
@@ -21,7 +22,7 @@ impl Version {
         Version::Two
     }
 
-    /// Whether it is the version that is written.
+    /// Whether this is the version that is written.
     pub fn is_newest(self) -> bool
         ensures { result ≡ is_newest self }
     {

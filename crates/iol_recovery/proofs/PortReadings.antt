@@ -15,7 +15,7 @@ port_of-extended : (more : List ℕ) (read : Result (Port × List ℕ) RecordFau
 port_of-extended more (Ok read) = refl
 port_of-extended more (Err fault) = refl
 
--- what is not short in the first sectors is the same in all
+-- a record that is not short in the first sectors is read the same from all
 in_all : (version : Version) (image : Image) (first sectors read : ℕ) (octets : List ℕ) → octets ≡ octets_at image first read
     → read ≤ sectors
     → (port_record_at version octets ≡ Err Short → ⊥) → port_of (port_record_at version (octets_at image first sectors))

@@ -1,4 +1,4 @@
--- A disk that calls left the same, and a fault behind them.
+-- A disk that calls left unchanged, and a fault after them.
 use Rattle.std.proofs.Common.{◌≡◌, Result, Err, ◌∙◌}
 use Rattle.iol_disk.specs.Disk.{Disk}
 use Rattle.iol_recovery.specs.Faults.{Counted, IsFault}
@@ -16,7 +16,7 @@ counted_behind T cause.TooSmall old mid new quiet counted = counted ∙ quiet
 counted_behind T (cause.Damaged sector) old mid new quiet counted = counted ∙ quiet
 counted_behind T cause.Memory old mid new quiet counted = counted ∙ quiet
 
--- a fault of the disk or of memory says nothing of what is read
+-- a fault of the disk or of memory says nothing about what is read
 pub fault-says_nothing : {Y : Type 0} (read : Result Y Cause) (told : RecoverCause) → IsFault told → SaysWhy read told
 fault-says_nothing read (cause.Disk fault) is = tt
 fault-says_nothing read cause.NotFormatted is = absurd is

@@ -25,7 +25,7 @@ pub geometry_after : (old new : Disk) (g : Geometry) → After synced old new �
 geometry_after old new g after is h =
     ap (λ (n : ℕ). geometry_in n (reads old.content)) (sym after.sectors) ∙ found_after old new (geometry_in new.sectors) g after is h
 
--- a cause that is met in a part after a sync is met in the whole
+-- a cause found in a part after a sync is the cause of the whole
 pub cause_after : {Y Z : Type 0} (old mid : Disk) (part : Image → Result Y Cause) (whole : Image → Result Z Cause) (told : RecoverCause)
     → After synced old mid
     → (IsTrue old.honest → SaysWhy (part (reads old.content)) told → SaysWhy (whole (reads old.content)) told)
@@ -33,7 +33,7 @@ pub cause_after : {Y Z : Type 0} (old mid : Disk) (part : Image → Result Y Cau
 cause_after old mid part whole told after carries is = λ h.
     carries h (subst (λ (image : Image). SaysWhy (part image) told) (synced-reads old mid after h) (is (synced-honest old mid after h)))
 
--- the geometry is sound and an area is in use, where both were found after a sync
+-- the geometry is sound and an area is in use, if both were found after a sync
 pub areas_found : (old first second : Disk) (g : Geometry) (layout : Layout) (used : InUse) → After synced old first → Same first second
     → layout ≡ layout_of g → Shows first (λ image. geometry_in first.sectors image ≡ Ok g)
     → Shows second (λ image. in_use_in layout image ≡ Ok used)

@@ -59,13 +59,13 @@ replay-ended version number left s (octet ∷ octets) empty none is =
     let some : empty ≡ false = grind (arith, nat_tests) in
     rw (none, some) refl
 
--- the command in front passes, and memory is wanted behind it
+-- the first command passes, and memory is needed after it
 pub wants-behind : (version : Version) (left : ℕ) (s : State) (octets rest : List ℕ) (command : CommandValue)
     → command_at version octets ≡ Ok (command, rest) → check s command ≡ None → CommandsWant version left (apply s command) rest
     → CommandsWant version (left + 1) s octets
 wants-behind version left s octets rest command is passed wants = rw add-one (inr (command, rest, is, passed, wants))
 
--- memory is wanted for the command in front
+-- memory is needed for the first command
 pub wants-first : (version : Version) (left : ℕ) (s : State) (octets : List ℕ) → IsOk (store_begun_at version octets)
     → CommandsWant version (left + 1) s octets
 wants-first version left s octets begun = rw add-one (inl begun)

@@ -19,7 +19,7 @@ use Rattle.iol_layout.proofs.Spans.{body_in-placed, batch_in-there, batch_in-pas
 use Rattle.iol_layout.specs.declared.area.Area.{Area}
 use Rattle.iol_disk.specs.declared.slot.TheConstants.{BODY_SECTORS}
 
--- commands that are there and legal lead on
+-- reading continues after legal commands
 goes_on : (sector number : ℕ) (state : State) (next : Meaning) (rest : ℕ → State → Result Log Cause) (commands : Option (List CommandValue))
     → reached number state commands ≡ Some next
     → (or_damaged commands sector >>= λ cs. if_sound (legal state cs) sector cs >>= λ all. rest (number + length all) (after state all))
@@ -50,7 +50,7 @@ stops_at sector number state rest (Some commands) is = by_test (legal state comm
     by_test true is = cc
     by_test false is = refl
 
--- an open slot whose batch leads on
+-- an open slot after whose batch reading continues
 pub log-open : (layout : Layout) (a : Area) (epoch : ℕ) (image : Image) (k left number : ℕ) (state : State) (next : Meaning)
     → is_open (image (slot_at layout a k)) ≡ true
     → reached number state (batch_in layout a epoch image k (left + 1) (number + 1)) ≡ Some next
@@ -81,7 +81,7 @@ pub log-closed : (layout : Layout) (a : Area) (epoch : ℕ) (image : Image) (k l
     → log_from layout a epoch image k 0 (left + 1) number state ≡ Ok (record { used = k; number = number; state = state })
 log-closed layout a epoch image k left number state closed = rw (add-one, closed) refl
 
--- the gate of a slot, as a disk says that calls left the same
+-- the gate of a slot, on a disk that calls left unchanged
 pub gate_read : (old now : Disk) (place gate : ℕ) (answer expected : Bool) → Same old now → gate ≡ place
     → Shows now (λ image. answer ≡ is_open (image gate)) → answer ≡ expected
     → Shows old (λ image. is_open (image place) ≡ expected)
@@ -90,7 +90,7 @@ gate_read old now place gate answer expected same here told is h =
     ∙ ap (λ (sector : ℕ). is_open (reads now.content sector)) (sym here)
     ∙ sym (told (same-honest old now same h)) ∙ is
 
--- an open slot whose batch leads on, to the slot behind it
+-- an open slot whose batch leads to the slot after it
 pub log-span : (layout : Layout) (a : Area) (epoch : ℕ) (image : Image) (k n left number : ℕ) (state : State) (next : Meaning)
     → is_open (image (slot_at layout a k)) ≡ true → 1 ≤ n → span_in layout a image k ≡ n
     → reached number state (batch_of layout.version epoch (number + 1) (body_in layout a image k n)) ≡ Some next
@@ -110,7 +110,7 @@ log-span layout a epoch image k n left number state next opened some span is =
     ∙ ap (λ (i : ℕ). log_from layout a epoch image i 0 (m - (n - 1)) next.number next.state) place
     ∙ ap (λ (i : ℕ). log_from layout a epoch image (k + n) 0 i next.number next.state) rest
 
--- an open slot whose batch leads nowhere
+-- an open slot at whose batch reading ends
 pub log-stuck : (layout : Layout) (a : Area) (epoch : ℕ) (image : Image) (k n left number : ℕ) (state : State)
     → is_open (image (slot_at layout a k)) ≡ true → 1 ≤ n → span_in layout a image k ≡ n
     → reached number state (batch_of layout.version epoch (number + 1) (body_in layout a image k n)) ≡ None
@@ -124,7 +124,7 @@ log-stuck layout a epoch image k n left number state opened some span is =
     ap (λ (i : ℕ). log_from layout a epoch image k 0 i number state) all
     ∙ log-damaged layout a epoch image k m number state opened (ap (reached number state) batch ∙ is)
 
--- an open slot whose batch goes past the last slot
+-- an open slot whose batch extends past the last slot
 pub log-past : (layout : Layout) (a : Area) (epoch : ℕ) (image : Image) (k n left number : ℕ) (state : State)
     → is_open (image (slot_at layout a k)) ≡ true → span_in layout a image k ≡ n → left + 1 < n
     → log_from layout a epoch image k 0 (left + 1) number state ≡ Err (damaged (body_at layout a k 0))
@@ -144,7 +144,7 @@ batch_read old now layout a k sector n body same here read h version epoch first
     ∙ ap (batch_of version epoch first) (sym (body_in-placed layout a (reads now.content) k n sector here))
     ∙ sym (read (same-honest old now same h) version epoch first)
 
--- how many slots it takes
+-- the number of slots that it takes
 pub span_read : (old now : Disk) (layout : Layout) (a : Area) (k sector n : ℕ) (head : List ℕ) → Same old now
     → sector ≡ body_at layout a k 0
     → Shows now (λ image. head ≡ image sector) → n ≡ slots_of (head_of head).octets

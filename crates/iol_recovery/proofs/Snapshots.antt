@@ -15,7 +15,7 @@ use Rattle.iol_recovery.proofs.Parts.{cause_before}
 use Rattle.iol_layout.specs.declared.area.Area.{Area}
 use Rattle.iol_disk.proofs.Unchanged.{same-honest, same-reads}
 
--- the ports that were read stand in front of those that are read next
+-- the ports that were read come before those that are read next
 abbrev pub with_front : State → Result State Cause → Result State Cause
 with_front front (Ok ports) = Ok (front ++ ports)
 with_front front (Err cause) = Err cause
@@ -29,7 +29,7 @@ with_front-one : (front : State) (port : Port) (others : Result State Cause)
 with_front-one front port (Ok ports) = ap (λ (all : State). Ok all) (sym (append_assoc front (port ∷ []) ports))
 with_front-one front port (Err cause) = refl
 
--- a port that its record says
+-- one more port, read from its record
 pub ports-more : (layout : Layout) (a : Area) (image : Image) (p left : ℕ) (front : State) (port : Port)
     → port_in layout.version image (port_at layout a p) layout.port_sectors ≡ Ok port
     → with_front front (ports_from layout a image p (left + 1)) ≡ with_front (front ++ port ∷ []) (ports_from layout a image (p + 1) left)
@@ -49,7 +49,7 @@ with_front-why front (Err why) (cause.Damaged sector) is = is
 with_front-why front (Ok ports) cause.Memory is = tt
 with_front-why front (Err why) cause.Memory is = tt
 
--- a port's record that says none
+-- a port's record from which no port is read
 pub ports-stopped : (layout : Layout) (a : Area) (image : Image) (p left : ℕ) (front : State) (told : RecoverCause)
     → SaysWhy (port_in layout.version image (port_at layout a p) layout.port_sectors) told
     → SaysWhy (with_front front (ports_from layout a image p (left + 1))) told
@@ -65,7 +65,7 @@ pub ports-ended : (layout : Layout) (a : Area) (image : Image) (p : ℕ) (front 
 unfolding ports_from
 ports-ended layout a image p front = simp append-nil
 
--- what a port's record says that stands here
+-- what is read from a port's record at this place
 pub port_placed : (image : Image) (version told : Version) (place sector count sectors : ℕ) (answer : Result Port RecoverCause)
     → told ≡ version → sector ≡ place → count ≡ sectors
     → Says (λ port. port) (port_in told image sector count) answer → Says (λ port. port) (port_in version image place sectors) answer
@@ -74,7 +74,7 @@ port_placed image version told place sector count sectors answer spelled here wh
     (subst (λ (s : ℕ). Says (λ port. port) (port_in version image s count) answer) here
     (subst (λ (v : Version). Says (λ port. port) (port_in v image sector count) answer) spelled says))
 
--- and on a disk that calls left the same
+-- the same on a disk that calls left unchanged
 pub port_shown : (old now : Disk) (version told : Version) (place sector count sectors : ℕ) (answer : Result Port RecoverCause)
     → Same old now → told ≡ version → sector ≡ place → count ≡ sectors
     → Shows now (λ image. Says (λ port. port) (port_in told image sector count) answer)

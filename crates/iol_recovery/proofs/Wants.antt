@@ -1,4 +1,4 @@
--- Where memory is wanted, carried from what was read to the whole.
+-- Where memory is needed, extended from what was read to the whole.
 use Rattle.std.proofs.Common.{◌≡◌, ◌≤◌, ◌<◌, ◌⊎◌, ℕ, ◌+◌, ◌-◌, ◌*◌, true, List, ◌++◌, length, inl, inr, sym, ◌∙◌, ap, subst, arith}
 use Rattle.std.proofs.lemmas.List.{length-append}
 use Rattle.iol_types.specs.State.{State}
@@ -19,7 +19,7 @@ use Rattle.iol_layout.specs.declared.area.Area.{Area}
 use Rattle.iol_layout.proofs.Spans.{body_in-placed}
 use Rattle.iol_recovery.specs.Wants.{BatchWants, CommandsWant, LogWants, PortWants}
 
--- what was read of a body is its beginning
+-- what was read of a body is the beginning of the body
 pub begins_with : (image : Image) (sector n most : ℕ) (front body : List ℕ) → HaveRead image sector n most front body
     → octets_at image sector most ≡ body ++ octets_at image (sector + n) (most - n)
 begins_with image sector n most front body read =
@@ -27,7 +27,7 @@ begins_with image sector n most front body read =
     ap (octets_at image sector) count ∙ octets_at-add image sector n (most - n)
     ∙ ap (λ (octets : List ℕ). octets ++ octets_at image (sector + n) (most - n)) (sym read.all)
 
--- what a batch wants it wants in a longer body too
+-- a batch that needs memory needs it in a longer body too
 pub wants-longer : (version : Version) (epoch first : ℕ) (state : State) (body more : List ℕ)
     → BatchWants version epoch first state body → BatchWants version epoch first state (body ++ more)
 wants-longer version epoch first state body more (fit, holds, wants) =
@@ -41,7 +41,7 @@ wants-longer version epoch first state body more (fit, holds, wants) =
           (sym (front-kept octets BODY_HEAD_OCTETS body more holds)) wants,
     )
 
--- the octets that were read of a body begin it, as a disk says that calls left the same
+-- the octets that were read of a body are its beginning, on a disk that calls left unchanged
 pub body_read : (old now : Disk) (layout : Layout) (a : Area) (k sector n : ℕ) (body : List ℕ) → Same old now
     → sector ≡ body_at layout a k 0
     → Shows now (λ image. (more : List ℕ) × (octets_at (λ j. image (body_sector sector j)) 0 (BODY_SECTORS * n) ≡ body ++ more))
@@ -53,7 +53,7 @@ body_read old now layout a k sector n body same here read h =
           ∙ sym (body_in-placed layout a (reads now.content) k n sector here) ∙ begins.1,
     )
 
--- a slot behind sound ones wants memory
+-- a slot after sound ones needs memory
 pub slot-wants : (layout : Layout) (a : Area) (epoch : ℕ) (image : Image) (k base : ℕ) (state : State) (number : ℕ) (reached : State)
     (n : ℕ) → log_from layout a epoch image k 0 0 number reached ≡ log_from layout a epoch image 0 0 (0 + k) base state
     → is_open (image (slot_at layout a k)) ≡ true → span_in layout a image k ≡ n → k < layout.slots → n ≤ layout.slots - k
@@ -73,13 +73,13 @@ slot-wants layout a epoch image k base state number reached n front opened span 
       ),
     )
 
--- with less room memory is wanted all the same
+-- with less capacity, memory is needed too
 less-room : (room least : ℕ) (version : Version) (image : Image) (first sectors : ℕ) → least ≤ room
     → PortWants room version image first sectors → PortWants least version image first sectors
 less-room room least version image first sectors less (j, inside, short, inl full) = (j, inside, short, inl (omega (arith, less, full)))
 less-room room least version image first sectors less (j, inside, short, inr begun) = (j, inside, short, inr begun)
 
--- a port of an area wants memory, as a disk says that calls left the same
+-- a port of an area needs memory, on a disk that calls left unchanged
 pub port-wants : (old now : Disk) (version told : Version) (place sector count sectors room least : ℕ) → Same old now → told ≡ version
     → sector ≡ place → count ≡ sectors → least ≤ room → Shows now (λ image. PortWants room told image sector count)
     → Shows old (λ image. PortWants least version image place sectors)

@@ -1,11 +1,11 @@
--- What a fault of reading says of the disk.
+-- What a fault during reading says about the disk.
 use Rattle.std.specs.Prelude.{◌≡◌, Result, Ok, Err}
 use Rattle.iol_disk.specs.Disk.{Disk, HasFailed}
 use Rattle.iol_disk.specs.declared.fault.DiskFault.TheVariants.{Read}
 use Rattle.iol_recovery.specs.declared.cause.RecoverCause.{RecoverCause}
 use Rattle.iol_recovery.specs.declared.cause.RecoverCause.TheVariants as cause
 
--- a fault that says nothing of what the disk holds: the disk failed, or it was out of memory (own)
+-- a fault that says nothing about what the disk holds: the disk failed, or out of memory (own)
 abbrev pub IsFault : RecoverCause → Type 0
 IsFault (cause.Disk fault) = Unit {0}
 IsFault cause.Memory = Unit {0}
@@ -16,7 +16,7 @@ abbrev pub IsDiskFault : RecoverCause → Type 0
 IsDiskFault (cause.Disk fault) = Unit {0}
 IsDiskFault other = ⊥
 
--- a fault of the disk is that of a read, and was counted; no other answer counts a failure (own)
+-- a fault of the disk is that of a read, and was counted; with any other answer no failure was counted (own)
 abbrev pub Counted : {T : Type 0} → Disk → Disk → Result T RecoverCause → Type 0
 Counted old new (Ok x) = new.failures ≡ old.failures
 Counted old new (Err (cause.Disk fault)) = (fault ≡ Read) × HasFailed old new

@@ -14,11 +14,11 @@ use Rattle.iol_layout.specs.declared.in_use.InUse.{InUse}
 use Rattle.iol_recovery.specs.declared.cause.RecoverCause.{RecoverCause}
 use Rattle.iol_recovery.specs.declared.cause.RecoverCause.TheVariants as cause
 
--- how the other area is harmless, as its header says: older, or else it has to be closed (own)
+-- why the other area is harmless: its header is older, or else its gate has to be closed (own)
 abbrev pub idle_in : Standing → Image → Idle
 idle_in s image = if nat_lt (header_of (image (header_at s.layout (other s.area)))).epoch s.epoch then Older else Closed
 
--- an image of so many sectors has a sound geometry and an area in use (own)
+-- an image of this number of sectors has a sound geometry and an area in use (own)
 abbrev pub HasChosen : ℕ → Image → Type 0
 HasChosen sectors image =
     (g : Geometry) × (used : InUse) × (geometry_in sectors image ≡ Ok g) × (in_use_in (layout_of g) image ≡ Ok used)

@@ -1,4 +1,4 @@
--- What a function that reads a disk answers.
+-- What a function that reads a disk returns.
 use Rattle.std.specs.Prelude.{◌≡◌, Result, Ok, Err}
 use Rattle.iol_disk.specs.Content.{Image}
 use Rattle.iol_disk.specs.Disk.{Disk, Shows}
@@ -6,7 +6,7 @@ use Rattle.iol_layout.specs.Meaning.{Cause, unformatted, too_small, damaged}
 use Rattle.iol_recovery.specs.declared.cause.RecoverCause.{RecoverCause}
 use Rattle.iol_recovery.specs.declared.cause.RecoverCause.TheVariants as cause
 
--- a cause is the one that reading meets; a fault of the disk or of memory says nothing of what is read (own)
+-- a cause is the one why reading fails; a fault of the disk or of memory says nothing about what is read (own)
 abbrev pub SaysWhy : {Y : Type 0} → Result Y Cause → RecoverCause → Type 0
 SaysWhy read (cause.Disk fault) = Unit {0}
 SaysWhy read cause.NotFormatted = read ≡ Err unformatted
@@ -14,12 +14,12 @@ SaysWhy read cause.TooSmall = read ≡ Err too_small
 SaysWhy read (cause.Damaged sector) = read ≡ Err (damaged sector)
 SaysWhy read cause.Memory = Unit {0}
 
--- an answer, in this view, is what is read, or says why it is not (own)
+-- an answer, in this view, is what is read, or says why reading fails (own)
 abbrev pub Says : {X Y : Type 0} → (X → Y) → Result Y Cause → Result X RecoverCause → Type 0
 Says view read (Ok x) = read ≡ Ok (view x)
 Says view read (Err told) = SaysWhy read told
 
--- an answer, in this view, says what is read off an honest disk; of a failed call and of memory `Counted` and
--- `HasChosen` speak (own)
+-- an answer, in this view, is what is read from an honest disk, or says why reading fails; `Counted` covers failed calls, and
+-- `HasChosen` memory (own)
 abbrev pub Finds : {X Y : Type 0} → (X → Y) → Disk → (Image → Result Y Cause) → Result X RecoverCause → Type 0
 Finds view old read answer = Shows old (λ image. Says view (read image) answer)

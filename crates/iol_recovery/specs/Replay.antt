@@ -1,10 +1,10 @@
--- Where the commands of a batch lead, and the octets in which they stand.
+-- The number and the state that are reached after the commands of a batch.
 use Rattle.std.specs.Prelude.{ℕ, ◌+◌, if◌then◌else◌, List, length, Option, Some, None}
 use Rattle.iol_types.specs.Command.{CommandValue}
 use Rattle.iol_types.specs.State.{State, after, legal}
 use Rattle.iol_layout.specs.Meaning.{Meaning}
 
--- what commands make of the state after so many, if they are there, and legal (own)
+-- the number and the state after these commands, if there are commands and they are legal (own)
 abbrev pub reached : ℕ → State → Option (List CommandValue) → Option Meaning
 reached number state None = None
 reached number state (Some commands) =

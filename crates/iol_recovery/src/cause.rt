@@ -1,25 +1,25 @@
-//! Why a disk is not recovered.
+//! Why a disk was not recovered.
 
 use iol_disk::DiskFault;
 use std::alloc::AllocError;
 use thiserror::Error;
 
-/// Why a disk was not recovered, as first met in the order of reading (docs/FORMATS.md, "Recovery").
+/// Why a disk was not recovered: the first cause in the order of reading (docs/FORMATS.md, "Recovery").
 #[derive(Clone, Copy, Debug, PartialEq, Eq, Error)]
 pub enum RecoverCause {
     /// A call of the disk failed.
     #[error("{0}")]
     Disk(DiskFault),
-    /// The gate of the disk is closed, or there is no such sector.
+    /// The gate of the disk is closed, or the disk has no such sector.
     #[error("the disk is not formatted")]
     NotFormatted,
     /// Its areas keep no slot in version 2 of the layout; only an earlier release has formatted such a disk.
     #[error("the disk is too small")]
     TooSmall,
-    /// What stands from this sector on is nothing that a journal writes.
+    /// No journal writes what is on the disk from this sector on.
     #[error("damaged at sector {sector}")]
     Damaged { sector: usize },
-    /// Memory ran out.
+    /// The recovery ran out of memory.
     #[error("out of memory")]
     Memory,
 }

@@ -1,4 +1,4 @@
-//! What a recovery finds on a disk.
+//! Recovery of the journal on a disk.
 
 ghost use Rattle.std.specs.Prelude.{◌≡◌, Err, IfOk, OnOk};
 ghost use Rattle.iol_disk.specs.Content.{EachImage, IsImage};
@@ -18,7 +18,7 @@ use iol_layout::{Idle, Place};
 use iol_types::MasterState;
 use std::alloc::Global;
 
-/// What recovery finds on a disk.
+/// What a recovery finds on a disk.
 #[derive(Drop)]
 pub struct Found {
     pub place: Place,
@@ -27,10 +27,10 @@ pub struct Found {
     pub copy: MasterState,
 }
 
-/// Syncs, and reads in the order of the layout.
+/// Syncs the disk, and reads the journal in the order of the layout.
 ///
 /// # Errors
-/// The cause that is met first (docs/FORMATS.md, "Recovery").
+/// The first cause in the order of reading (docs/FORMATS.md, "Recovery").
 pub fn find<D: SectorDisk>(alloc: Global, disk: &mut D) -> Result<Found, RecoverCause>
     ensures makes { MakesRecovery (D.disk disk.old) (D.disk disk.new) result }
     ensures memory { result ≡ Err RecoverCause.Memory → Shows (D.disk disk.old) (HasChosen (D.disk disk.old).sectors) }
@@ -38,7 +38,7 @@ pub fn find<D: SectorDisk>(alloc: Global, disk: &mut D) -> Result<Found, Recover
         (standing_in (D.disk disk.old).sectors) result }
     ensures idle { IfOk result (λ found.
         Shows (D.disk disk.old) (λ image. found.place.idle ≡ idle_in (standing_at found.place found.number found.state) image)) }
-    // What it read is the only image.
+    // After the sync, what was read is the only image.
     ensures settled { OnOk result
         (Shows (D.disk disk.old) (λ read. EachImage (D.disk disk.new).content (λ image. image ≡ read))) }
     ensures any_moment { LeavesOnly (D.disk disk.old) (D.disk disk.new) (IsImage (D.disk disk.old).content) }

@@ -1,9 +1,9 @@
 //! Finds the journal on a disk, and the state after its commands.
 //!
 //! [`find`] makes one sync and reads in the order of the layout: the geometry, the area in use, the records of its ports, and the
-//! batches in its slots. It answers where the journal stands ([`Found`]), or the cause that is met first ([`RecoverCause`]). The
-//! readers of single parts ([`read_open_headers`], [`greatest_of`], [`read_header`], [`read_port`], [`read_slot`]) are for a map
-//! of a disk.
+//! batches in its slots. It returns where the journal continues ([`Found`]), or the first cause of failure ([`RecoverCause`]). The
+//! readers of single parts ([`read_open_headers`], [`greatest_of`], [`read_header`], [`read_port`], [`read_slot`]) serve a map of
+//! a disk.
 #![tactic(auto)]
 
 mod cause;

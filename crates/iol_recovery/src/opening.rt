@@ -17,7 +17,7 @@ use iol_layout::{
     Area, GEOMETRY, Geometry, Header, InUse, Layout, gate, is_formatted, read_sector,
 };
 
-// The geometry that a disk is formatted for.
+// Reads the geometry that a disk is formatted for.
 #[tactic(auto, using(iol_layout::proofs::Layouts::same_total))]
 pub(crate) fn find_geometry<D: SectorDisk>(disk: &mut D) -> Result<Geometry, RecoverCause>
     ensures fits { IfOk result (λ g. (version : Version) → total (laid_out version g) ≤ (D.disk disk.old).sectors) }
@@ -47,14 +47,14 @@ pub(crate) struct Areas {
     pub other: Header,
 }
 
-// The layout of the area in use.
+// Returns the layout of the area in use.
 pub(crate) fn layout_used(geometry: Geometry, used: InUse) -> Layout
     ensures { result ≡ layout_used geometry used }
 {
     Layout::of(used.header.version_in_use(), geometry)
 }
 
-// Reads the gates, the headers of the open areas, and then the other one's where that is closed.
+// Reads the gates, the headers of the open areas, and then that of the area not in use, if it is closed.
 pub(crate) fn find_areas<D: SectorDisk>(disk: &mut D, layout: Layout) -> Result<Areas, RecoverCause>
     requires { total layout ≤ (D.disk disk.old).sectors }
     ensures finds { Finds (λ areas. areas.in_use) (D.disk disk.old) (in_use_in layout) result }
@@ -81,10 +81,10 @@ pub(crate) fn find_areas<D: SectorDisk>(disk: &mut D, layout: Layout) -> Result<
     Ok(Areas { in_use, other })
 }
 
-/// Reads both gates, and then the headers of the open areas: that of A, and that of B.
+/// Reads both gates, and then the headers of the open areas. Returns that of A and that of B.
 ///
 /// # Errors
-/// `Read` where the disk fails.
+/// `Read` if the disk fails.
 pub fn read_open_headers<D: SectorDisk>(
     disk: &mut D,
     layout: Layout,
@@ -105,7 +105,7 @@ pub fn read_open_headers<D: SectorDisk>(
 /// Reads the header of an area, whether its gate is open or closed.
 ///
 /// # Errors
-/// `Read` where the disk fails.
+/// `Read` if the disk fails.
 pub fn read_header<D: SectorDisk>(
     disk: &mut D,
     layout: Layout,
@@ -139,11 +139,11 @@ fn read_if<D: SectorDisk>(
     }
 }
 
-/// Of the open areas, of which these are the headers, the one that is in use: that with the greatest epoch.
+/// Returns the area in use: of the open areas, whose headers are `a` and `b`, the one with the greatest epoch.
 ///
 /// # Errors
-/// `Damaged`, as "Recovery" of docs/FORMATS.md has it, where no area is open, both have one epoch, or the header of the
-/// one with the greatest is out of its bounds.
+/// `Damaged` (docs/FORMATS.md, "Recovery") if no area is open, both have the same epoch, or the header with the greatest
+/// epoch is out of its bounds.
 pub fn greatest_of(
     layout: Layout,
     a: Option<Header>,

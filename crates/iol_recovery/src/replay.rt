@@ -1,4 +1,4 @@
-//! The commands of an area's slots, applied in order.
+//! Applies the commands of an area's slots in order.
 
 ghost use Rattle.std.specs.Prelude.{◌≡◌, ◌≤◌, ◌<◌, ◌+◌, ◌*◌, ◌++◌, ℕ, length, drop};
 ghost use Rattle.std.specs.Prelude.{IsTrue, IfOk, IfErr, IfSome, IfNone, OnOk, OnErr, IsOk, Ok, Err};
@@ -26,14 +26,14 @@ use iol_record::{RecordFault, Version, decode_command};
 use iol_types::{Command, MasterState};
 use std::alloc::{AllocError, Global};
 
-// Where a journal goes on behind the slots that were replayed.
+// Where a journal continues after the slots that were replayed.
 #[derive(Clone, Copy)]
 pub(crate) struct End {
     pub used: usize,
     pub number: u64,
 }
 
-// Applies the commands of an area's slots, up to the first whose gate is closed.
+// Applies the commands of an area's slots, up to the first slot whose gate is closed.
 pub(crate) fn replay_slots<D: SectorDisk>(
     alloc: Global,
     disk: &mut D,
@@ -56,7 +56,7 @@ pub(crate) fn replay_slots<D: SectorDisk>(
     replay_open_slots(alloc, disk, layout, area, header, state, &mut body)
 }
 
-// The same, with room for the body of a slot.
+// Does the same, with a buffer that has capacity for the body of a slot.
 fn replay_open_slots<D: SectorDisk>(
     alloc: Global,
     disk: &mut D,
@@ -101,7 +101,7 @@ fn replay_open_slots<D: SectorDisk>(
     Ok(End { used, number })
 }
 
-// Reads the first sector of a body: how many slots it takes, as its head says.
+// Reads the first sector of a body, and returns the number of slots that it takes, as its head says.
 fn read_head<D: SectorDisk>(
     disk: &mut D,
     slot: Slot,
@@ -134,11 +134,11 @@ fn read_body<D: SectorDisk>(
     requires first { Shows (D.disk disk.old) (λ image. body.old.items ≡ image slot.body) }
     requires size { length body.old.items ≡ SECTOR_OCTETS }
     requires span { slot.span ≡ slots_of (head_of body.old.items).octets }
-    // Its batch is that of the whole body.
+    // What was read has the batch of the whole body.
     ensures reads { OnOk result (Shows (D.disk disk.old) (λ image. (version : Version) (epoch first : ℕ)
         → batch_of version epoch first body.new.items
         ≡ batch_of version epoch first (octets_at (λ j. image (body_sector slot.body j)) 0 (BODY_SECTORS * slot.span)))) }
-    // It is the beginning of that.
+    // What was read is the beginning of the whole body.
     ensures begins { OnOk result (Shows (D.disk disk.old) (λ image. (more : List ℕ)
         × (octets_at (λ j. image (body_sector slot.body j)) 0 (BODY_SECTORS * slot.span) ≡ body.new.items ++ more))) }
     ensures holds { OnOk result (IsTrue (D.disk disk.old).honest → HoldsRecords body.new.items) }
@@ -180,7 +180,7 @@ fn push_sector<D: SectorDisk>(
     Ok(())
 }
 
-// Applies the commands of a body, if it has a batch that follows this number, and tells the number of its last.
+// Applies the commands of a body. Returns the number of the last one, or `None` if the body has no legal batch that follows `number`.
 fn replay_body(
     alloc: Global,
     version: Version,
@@ -217,7 +217,7 @@ fn replay_body(
     }
 }
 
-// The command whose record stands in front, if one does, and how many octets its record has.
+// Decodes the command whose record the octets begin with, if there is one. Returns it and the number of octets of its record.
 fn next_command(
     alloc: Global,
     version: Version,
@@ -235,7 +235,7 @@ fn next_command(
     }
 }
 
-// Applies so many commands, if their records fill the octets exactly, and each passes.
+// Applies `count` commands. Returns whether each passes and their records fill the octets exactly.
 fn replay(
     alloc: Global,
     version: Version,

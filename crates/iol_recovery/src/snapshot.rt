@@ -1,4 +1,4 @@
-//! The state that an area's port records say.
+//! Reads the state from an area's port records.
 
 ghost use Rattle.std.specs.Prelude.{◌≡◌, ◌<◌, ◌≤◌, ◌+◌, ◌*◌, ℕ, length, vec_capacity, IfOk, IfErr, IfSome, OnOk, Ok, Err};
 ghost use Rattle.iol_disk.specs.Disk.{Same, Shows};
@@ -16,12 +16,12 @@ use iol_record::{RecordFault, Version, decode_port, port_goes_on};
 use iol_types::{MasterState, PortId, PortState};
 use std::alloc::Global;
 
-/// The port whose record in this version begins in a sector: of its sectors as many are read as the record reaches, and `octets` then has
-/// those that were read.
+/// Reads the port whose record in this version begins at `sector` and has up to `sectors` sectors. Only the sectors that the record
+/// reaches are read, and `octets` then holds them.
 ///
 /// # Errors
-/// `Damaged` with the first sector, where its sectors hold no record of a port; `Disk` of `Read` where the disk fails;
-/// `Memory` where it is out of memory.
+/// `Damaged` with the first sector, if its sectors hold no record of a port; `Disk` with `Read` if the disk fails; `Memory` if out
+/// of memory.
 pub fn read_port<D: SectorDisk>(
     alloc: Global,
     disk: &mut D,
@@ -45,8 +45,8 @@ pub fn read_port<D: SectorDisk>(
     }
 }
 
-// The port, if its record is decoded with all sectors that its lengths reach. None where it is short all the same, or where memory is
-// out: when that may be is said of a record that is decoded sector by sector.
+// Decodes the port from all sectors that its record's lengths reach. Returns `None` if the record is still too short, or if out of
+// memory: the contract says when that may happen only for a record that is decoded sector by sector.
 fn read_at_once<D: SectorDisk>(
     alloc: Global,
     disk: &mut D,
@@ -105,7 +105,7 @@ fn read_reached<D: SectorDisk>(
     Ok(())
 }
 
-// The port, its record decoded sector by sector.
+// Reads the port, and decodes its record after each sector.
 fn read_by_sectors<D: SectorDisk>(
     alloc: Global,
     disk: &mut D,
@@ -137,7 +137,7 @@ fn read_by_sectors<D: SectorDisk>(
     Err(RecoverCause::Damaged { sector })
 }
 
-// The state that an area's port records say.
+// Reads the state from an area's port records.
 pub(crate) fn read_ports<D: SectorDisk>(
     alloc: Global,
     disk: &mut D,
@@ -156,7 +156,7 @@ pub(crate) fn read_ports<D: SectorDisk>(
     Ok(state)
 }
 
-// Puts the ports that an area's records say into a state of as many, with room for octets of a record.
+// Reads the ports of an area into a state of the same number of ports; `octets` is the buffer for a record.
 fn read_records<D: SectorDisk>(
     alloc: Global,
     disk: &mut D,

@@ -1,4 +1,4 @@
-//! What a slot shows before it is judged.
+//! The gate and the head of a slot, read without checking its batch.
 
 ghost use Rattle.std.specs.Prelude.{◌≡◌, ◌<◌, ◌≤◌, IfOk};
 ghost use Rattle.iol_disk.specs.Disk.{Same, FailsOnlyAs, Shows};
@@ -9,19 +9,19 @@ ghost use Rattle.iol_recovery.specs.Survey.{head_in};
 use iol_disk::{DiskFault, SectorDisk};
 use iol_layout::{Area, Head, Layout, read_sector};
 
-/// What a slot shows before it is judged.
+/// The gate and the head of a slot, read without checking its batch.
 #[derive(Clone, Copy)]
 pub struct SlotFront {
     /// The sector of its gate.
     pub gate: usize,
-    /// The head of its body, where its gate is open.
+    /// The head of its body, if its gate is open.
     pub head: Option<Head>,
 }
 
-/// Reads the gate of a slot, and behind an open one the head of its body; slots are counted from 0.
+/// Reads the gate of a slot and, if it is open, the head of its body; slots are counted from 0.
 ///
 /// # Errors
-/// `Read` where the disk fails.
+/// `Read` if the disk fails.
 pub fn read_slot<D: SectorDisk>(
     disk: &mut D,
     layout: Layout,

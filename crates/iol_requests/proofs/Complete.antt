@@ -1,4 +1,4 @@
--- A table of a verb is a request if it has no other key and each of its keys is right.
+-- A table of a verb is a request if it has no other key and the value at each of its keys is allowed.
 use Rattle.std.proofs.Common.{◌≡◌, ℕ, Bool, true, false, not, ◌&&◌, cond, List, [], ◌∷◌, Option, Some, None, option_and_then, option_map}
 use Rattle.std.proofs.Common.{sym, ap, refl, subst}
 use Rattle.std.specs.Prelude.{find, is_some, codes}
@@ -26,12 +26,12 @@ find_passes {A = A} p (x ∷ xs) y found = step (find_passes p xs y) (p x) refl 
     step others true passes same = let e : x ≡ y = cc in subst (λ (z : A). p z ≡ true) e passes
     step others false fails more = others more
 
--- each of these fails a test
+-- each of these elements fails a test
 abbrev misses : {A : Type 0} (p : A → Bool) → List A → Type 0
 misses p [] = Unit {0}
 misses p (x ∷ xs) = (p x ≡ false) × misses p xs
 
--- a search that finds nothing passes over all
+-- if a search finds nothing, every element fails its test
 find_misses : {A : Type 0} (p : A → Bool) (xs : List A) → find p xs ≡ None → misses p xs
 find_misses p [] none = tt
 find_misses p (x ∷ xs) none = step (find_misses p xs) (p x) refl none
@@ -40,7 +40,7 @@ find_misses p (x ∷ xs) none = step (find_misses p xs) (p x) refl none
     step others true passes found = absurd (cc)
     step others false fails more = (fails, others more)
 
--- a value that is there
+-- a value that is not missing
 some_value : {A : Type 0} (o : Option A) → not (is_some o) ≡ false → (x : A) × (o ≡ Some x)
 some_value None missing = absurd (cc)
 some_value (Some x) there = (x, refl)
@@ -55,7 +55,7 @@ word_of : (word : Option (List ℕ)) (verb : Verb) → option_and_then verb_of w
 word_of None verb is = absurd (cc)
 word_of (Some word) verb is = ap Some (verb_word word verb is)
 
--- the port of a request that may have none
+-- the port of a request, if it has one
 port_there : (port : Option Data) (table : Members) → (is_some port && not (is_some (port_in table))) ≡ false
     → (number : Option ℕ) × (port_if port table ≡ Some number)
 port_there None table right = (None, refl)
@@ -111,7 +111,7 @@ alone : (table : Members) → has_only_keys (keys_of Help) table ≡ true
     → (request_by Help table ≡ None → ⊥) × (request_by Quit table ≡ None → ⊥)
 alone table only = ((λ none. none-some _ (sym (rw only at none))), (λ none. none-some _ (sym (rw only at none))))
 
--- the keys of a table of a verb are not all right if it is no request
+-- if a table with only the keys of its verb is no request, one of them is wrong
 pub is_request : (verb : Verb) (table : Members) → verb_at table ≡ Some verb → has_only_keys (keys_of verb) table ≡ true
     → wrong_key verb table ≡ None → request_by verb table ≡ None → ⊥
 is_request Configure table verb only right none = configures table (word_of _ Configure verb) only right none

@@ -1,4 +1,4 @@
--- The table of an object's members, as it is made one member after another.
+-- The table of an object's members, built one member after another.
 use Rattle.std.proofs.Common.{◌≡◌, ◌∙◌, ℕ, ◌<◌, ◌+◌, List, [], ◌∷◌, length, get_or, drop, refl}
 use Rattle.std.proofs.Common.{Bor, String, Global, Ordering, Less, Equal, Greater, string_bytes}
 use Rattle.std.proofs.lemmas.List.{drop_more}
@@ -13,14 +13,14 @@ use Rattle.toml.specs.View.{view, members_view as table_members}
 use Rattle.toml.specs.declared.value.Value.{Value}
 use Rattle.iol_requests.specs.Json.{put, table_with, with_member}
 
--- a member of an object, and an entry of a table
+-- a member of an object; an entry of a table
 abbrev pub Member : Type 0
 Member = Bor (List ℕ) × JsonValue Global
 
 abbrev pub Entry : Type 0
 Entry = String Global × Value
 
--- the members from a place on are that one and those after it
+-- the members from a place on are the one at it and those after it
 pub members_view-drop : (members : List Member) (place : ℕ) (d : Member) → place < length members
     → members_view (drop place members)
     ≡ json_member (get_or members place d).0.now (value_view (get_or members place d).1) (members_view (drop (place + 1) members))
@@ -32,7 +32,7 @@ view-match_ordering Less a b c = refl
 view-match_ordering Equal a b c = refl
 view-match_ordering Greater a b c = refl
 
--- an entry that is added to a map is added to the table that it is
+-- adding an entry to a map adds it to the map's table
 pub members_view-insert_entry : (entries : List Entry) (key : String Global) (value : Value)
     → table_members (insert_entry string_cmp entries key value) ≡ put (string_bytes key) (view value) (table_members entries)
 members_view-insert_entry [] key value = refl

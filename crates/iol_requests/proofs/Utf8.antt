@@ -23,7 +23,7 @@ ascii_then : (x : ℕ) (xs : List ℕ) → x < 128 → IsUtf8 xs → IsUtf8 (x �
 ascii_then x xs small text =
     IsUtf8-append (x ∷ []) xs (subst IsUtf8 (encode_ascii x small) (IsUtf8-encode x (low_scalar x (omega arith)))) text
 
--- all octets are of ASCII
+-- all octets are ASCII
 abbrev are_ascii : List ℕ → Bool
 are_ascii [] = true
 are_ascii (x ∷ xs) = nat_lt x 128 && are_ascii xs
@@ -32,7 +32,7 @@ ascii_text : (xs : List ℕ) → are_ascii xs ≡ true → IsUtf8 xs
 ascii_text [] all = IsUtf8-nil
 ascii_text (x ∷ xs) all = let parts = and_parts _ _ all in ascii_then x xs (ltb-true _ _ parts.0) (ascii_text xs parts.1)
 
--- an octet of no ASCII is no blank and no quotation mark
+-- an octet that is not ASCII is no blank and no quotation mark
 no_blank : (x : ℕ) → 128 ≤ x → as_toml None x ≡ x
 no_blank x high = grind (arith, nat_tests)
 
@@ -54,7 +54,7 @@ high_within None x high = no_quote x high
 high_within (Some Double) x high = no_double x high
 high_within (Some Single) x high = no_single x high
 
--- an octet of ASCII is one afterwards
+-- an octet of ASCII is translated to an octet of ASCII
 low_blank : (x : ℕ) → x < 128 → as_toml None x < 128
 low_blank x low = grind (arith, nat_tests)
 
@@ -62,7 +62,7 @@ low_as_toml : (within : Option Quote) (x : ℕ) → x < 128 → as_toml within x
 low_as_toml None x low = low_blank x low
 low_as_toml (Some quote) x low = low
 
--- octets of no ASCII stay
+-- octets that are not ASCII stay as they are
 high_lines : (within : Option Quote) (xs ys : List ℕ) → ((k : ℕ) → k < length xs → 128 ≤ get_or xs k 0)
     → lines_of within (xs ++ ys) ≡ xs ++ lines_of within ys
 high_lines within [] ys high = refl
@@ -71,7 +71,7 @@ high_lines within (x ∷ xs) ys high =
     let others : lines_of within (xs ++ ys) ≡ xs ++ lines_of within ys = high_lines within xs ys (λ k below. high (suc k) (omega arith)) in
     rw (high_as_toml within x first, high_within within x first) (ap (λ (l : List ℕ). x ∷ l) others)
 
--- a character of no ASCII has no octet of ASCII
+-- a character that is not ASCII has no octet of ASCII
 high_char : (c : ℕ) → 128 ≤ c → (k : ℕ) → k < length (encode c) → 128 ≤ get_or (encode c) k 0
 high_char c high k below = elim (cases_lt (get_or (encode c) k 0) 128) [
   | inl low ↦ absurd (omega (arith, inside_one c [] (encode c) k (sym (append-nil _)) below low))
@@ -91,7 +91,7 @@ chars_lines (c ∷ cs) all within =
           (IsUtf8-append (encode c) _ (IsUtf8-encode c parts.0) (chars_lines cs parts.1 within))
     ]
 
--- the lines of a text are a text
+-- the lines of a text are UTF-8
 text_lines : (within : Option Quote) (xs : List ℕ) → IsUtf8 xs → IsUtf8 (lines_of within xs)
 text_lines within xs text = subst (λ (l : List ℕ). IsUtf8 (lines_of within l)) text.1.1 (chars_lines text.0 text.1.0 within)
 
@@ -104,18 +104,18 @@ verb_text Status = ascii_text _ refl
 verb_text Help = ascii_text _ refl
 verb_text Quit = ascii_text _ refl
 
--- the document of pairs that are a text is one
+-- the document of pairs that are UTF-8 is UTF-8
 pub document_text : (verb : Verb) (pairs : List ℕ) → IsUtf8 pairs → IsUtf8 (document_of verb pairs)
 document_text verb pairs text =
     let first : IsUtf8 (codes "do = \"") = ascii_text (codes "do = \"") refl in
     let end : IsUtf8 (codes "\"\n") = ascii_text (codes "\"\n") refl in
     IsUtf8-append _ _ (IsUtf8-append _ _ (IsUtf8-append _ _ first (verb_text verb)) end) (text_lines None pairs text)
 
--- a blank is of ASCII
+-- a blank is an octet of ASCII
 blank_low : (x : ℕ) → not (is_blank x) ≡ false → x < 128
 blank_low x blank = grind (arith, nat_tests)
 
--- what follows the first blank of a text is a text
+-- what follows the first blank of a text is UTF-8
 pub pairs_text : (text : List ℕ) → IsUtf8 text → IsUtf8 (pairs_in text)
 pairs_text text utf8 =
     let place = position_or_len is_blank text in

@@ -1,4 +1,4 @@
--- The lines and requests that examples speak of.
+-- The lines and requests of the examples.
 use Rattle.std.specs.Prelude.{ℕ, zero, suc, List, [], ◌∷◌, codes, Option, Some, None}
 use Rattle.iol_types.specs.declared.command.Change.TheVariants as change
 use Rattle.iol_types.specs.declared.config.PortConfig.{PortConfig}
@@ -16,11 +16,11 @@ labelled label = record { mode = IolManual; validation = BackupAndRestore; vendo
 abbrev pub configure_first : List ℕ → Request
 configure_first label = Ask (change.Configure 1 (labelled label))
 
--- for worked examples: this request, whose answer is given back with nothing (own)
+-- for worked examples: this request, without an id (own)
 abbrev pub plain : Request → Option Asking
 plain request = Some (record { id = None; request = request })
 
--- for worked examples: a text of so many spaces (own)
+-- for worked examples: a text of `count` spaces (own)
 abbrev pub blanks : ℕ → List ℕ
 blanks zero = []
 blanks (suc count) = 0x20 ∷ blanks count

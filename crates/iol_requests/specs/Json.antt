@@ -1,4 +1,4 @@
--- Requests in JSON: an object with the members of a request's table, and perhaps an id.
+-- Requests in JSON: an object with the members of a request's table, and an optional id.
 use Rattle.std.specs.Prelude.{ℕ, ◌^◌, pos, Bool, true, false, not, ◌&&◌, nat_le, nat_lt, if◌then◌else◌, List, [], ◌∷◌, length, codes}
 use Rattle.std.specs.Prelude.{Option, Some, None, option_and_then, option_map, unwrap_or}
 use Rattle.std.specs.Cmp.Lexicographic.{slice_cmp}
@@ -22,11 +22,11 @@ number_in digits =
     if all_ascii_digits digits && nat_lt 0 (length digits) && nat_lt (digits_value 10 digits) (2 ^ 63)
     then Some (digits_value 10 digits) else None
 
--- a value of TOML that no key takes (own)
+-- a value of TOML that no key allows (own)
 abbrev pub no_value : Data
 no_value = array no_items
 
--- a value of JSON as one of TOML: a text, or a whole number from 0 on; no key takes another one (format, Requests)
+-- a value of JSON as one of TOML: a text, or a whole number from 0 on; no key allows any other (format, Requests)
 abbrev pub number_value : Option ℕ → Data
 number_value (Some number) = integer (pos number)
 number_value None = no_value
@@ -36,23 +36,23 @@ value_of (json.number digits) = number_value (number_in digits)
 value_of (json.string text) = string text
 value_of _ = no_value
 
--- a table with this value at a key; its keys ascend (TOML)
+-- a table with this value at a key; its keys are in ascending order (TOML)
 abbrev pub put : List ℕ → Data → Members → Members
 put key value no_members = member key value no_members
 put key value (member other there others) =
     match_ordering (slice_cmp nat_cmp key other) (member key value (member other there others)) (member other value others)
     (member other there (put key value others))
 
--- a table with a member of an object, but for its id (format, Requests)
+-- a table with a member of an object, unless it is the id (format, Requests)
 abbrev pub with_member : List ℕ → Json → Members → Members
 with_member key value table = if bytes_eq key (codes "id") then table else put key (value_of value) table
 
--- a table with members of an object, one after another (format, Requests)
+-- a table with the members of an object added one after another (format, Requests)
 abbrev pub table_with : json.Members → Members → Members
 table_with json.no_members table = table
 table_with (json.member key value others) table = table_with others (with_member key value table)
 
--- no key is there twice (format, Requests)
+-- all keys are distinct (format, Requests)
 abbrev pub are_distinct : List (List ℕ) → Bool
 are_distinct [] = true
 are_distinct (key ∷ others) = not (is_among others key) && are_distinct others
@@ -62,13 +62,13 @@ abbrev pub request_with : json.Members → Option Request
 request_with members =
     if are_distinct (keys members) then request_in (table_with members no_members) else None
 
--- the id that a value is: a whole number, or a text of at most 64 octets (format, Requests)
+-- the id in a value: a whole number, or a text of at most 64 octets (format, Requests)
 abbrev pub id_of : Json → Option IdValue
 id_of (json.number digits) = option_map id_number (number_in digits)
 id_of (json.string text) = if nat_le (length text) MOST_ID_OCTETS then Some (id_text text) else None
 id_of _ = None
 
--- the id of a value, which may be missing, but not be another value (format, Requests)
+-- the id of a value; it may be missing, but may not be any other value (format, Requests)
 abbrev pub id_if : Option Json → Option (Option IdValue)
 id_if None = Some None
 id_if (Some value) = option_map Some (id_of value)
@@ -76,7 +76,7 @@ id_if (Some value) = option_map Some (id_of value)
 abbrev pub id_at : Json → Option (Option IdValue)
 id_at value = id_if (get (codes "id") value)
 
--- a request, with what its answer is given back with (own)
+-- a request, with the id that its answer repeats (own)
 pub record Asking : Type 0 where
   pub id : Option IdValue
   pub request : Request
@@ -94,6 +94,6 @@ asking_of value =
 abbrev pub asked_in_json : List ℕ → Option Asking
 asked_in_json text = option_and_then asking_of (document text)
 
--- the id of a text in JSON that is given back, if it is right (format, Requests)
+-- the id of a text in JSON that is given back, if it is valid (format, Requests)
 abbrev pub id_in_json : List ℕ → Option IdValue
 id_in_json text = option_and_then (λ value. unwrap_or (id_at value) None) (document text)

@@ -1,4 +1,4 @@
--- The keys of requests: which of them a verb has, and when a value may be at one.
+-- The keys of requests: which of them a verb has, and which values are allowed at each.
 use Rattle.std.specs.Prelude.{◌≡◌, ℕ, Bool, true, false, not, ◌&&◌, is_some, List, [], ◌∷◌, codes, Option, Some, None, find}
 use Rattle.toml.specs.Data.{Members, get_member}
 use Rattle.iol_script.specs.Number.{port_in, vendor_in, device_in}
@@ -25,11 +25,11 @@ key_name Device = codes "device"
 key_name Label = codes "label"
 key_name Id = codes "id"
 
--- all keys, in the order in which they are judged (format, Requests)
+-- all keys, in the order in which they are checked (format, Requests)
 abbrev pub all_keys : List Key
 all_keys = Do ∷ Port ∷ Mode ∷ Validation ∷ Vendor ∷ Device ∷ Label ∷ Id ∷ []
 
--- the keys of a verb, with `do` (format, Requests)
+-- the keys of a verb, including `do` (format, Requests)
 abbrev pub keys_of : Verb → List (List ℕ)
 keys_of verb.Configure = configure_keys
 keys_of verb.Clear = port_keys
@@ -39,7 +39,7 @@ keys_of verb.Status = port_keys
 keys_of verb.Help = verb_alone
 keys_of verb.Quit = verb_alone
 
--- whether a verb needs a key, may have it, or never has it; an `id` is of the line (format, Requests)
+-- whether a verb needs a key, may have it, or never has it; an `id` belongs to the line (format, Requests)
 abbrev pub port_use : Use → Key → Use
 port_use of_port Do = Needed
 port_use of_port Port = of_port
@@ -59,7 +59,7 @@ use_of verb.Status key = port_use Free key
 use_of verb.Help key = port_use Never key
 use_of verb.Quit key = port_use Never key
 
--- the value at a key may be there, as scripts have it (format, Requests)
+-- the value at a key is allowed, by the same rules as in scripts (format, Requests)
 abbrev pub is_right : Key → Members → Bool
 is_right Do table = is_some (verb_at table)
 is_right Port table = is_some (port_in table)
@@ -70,7 +70,7 @@ is_right Device table = is_some (device_in table)
 is_right Label table = is_some (label_in table)
 is_right Id table = true
 
--- a key is missing or its value may not be there (format, Requests)
+-- a key is missing, or its value is not allowed (format, Requests)
 abbrev pub is_wrong_in : Use → Key → Members → Bool
 is_wrong_in Needed key table = not (is_right key table)
 is_wrong_in Free key table = is_some (get_member (key_name key) table) && not (is_right key table)
@@ -79,7 +79,7 @@ is_wrong_in Never key table = false
 abbrev pub is_wrong : Verb → Members → Key → Bool
 is_wrong verb table key = is_wrong_in (use_of verb key) key table
 
--- the first key of a table with a verb that is missing, or whose value may not be there (format, Requests)
+-- the first key of a table with a verb that is missing, or whose value is not allowed (format, Requests)
 abbrev pub wrong_key : Verb → Members → Option Key
 wrong_key verb table = find (is_wrong verb table) all_keys
 
@@ -90,7 +90,7 @@ IsFaultOf verb table (fault.Missing key) = (wrong_key verb table ≡ Some key) �
 IsFaultOf verb table (fault.WrongValue key) = (wrong_key verb table ≡ Some key) × (is_some (get_member (key_name key) table) ≡ true)
 IsFaultOf verb table _ = ⊥
 
--- a fault is that of a word that is no verb (format, Requests)
+-- a fault reports a word that is no verb (format, Requests)
 abbrev pub IsOfVerb : Fault → Type 0
 IsOfVerb (fault.UnknownVerb word meant) = Unit {0}
 IsOfVerb _ = ⊥

@@ -20,7 +20,7 @@ pub record IsText (octets : List ℕ) : Type 0 where
   pub short : length octets ≤ LINE_OCTETS
   pub utf8 : IsUtf8 (text_of octets)
 
--- a text is no request: it has blanks alone, or begins with a number sign (format, Requests)
+-- a text is neither a request nor a mistake: it has only blanks, or begins with a number sign (format, Requests)
 abbrev pub is_nothing : List ℕ → Bool
 is_nothing text = list_all is_blank text || slice_index text 0 == 0x23
 
@@ -37,7 +37,7 @@ asked_as Json text = asked_in_json text
 abbrev pub asked_in : List ℕ → Option Asking
 asked_in text = asked_as (spelling_of text) text
 
--- the id of a text that is wrong: one in JSON may have it (format, Requests)
+-- the id of a text that is wrong: only one in JSON may have it (format, Requests)
 abbrev pub id_as : Spelling → List ℕ → Option IdValue
 id_as Words text = None
 id_as Json text = id_in_json text
@@ -45,7 +45,7 @@ id_as Json text = id_in_json text
 abbrev pub id_in : List ℕ → Option IdValue
 id_in text = id_as (spelling_of text) text
 
--- the octets of a line are no request (format, Requests)
+-- the octets of a line are neither a request nor a mistake (format, Requests)
 pub record SaysNothing (octets : List ℕ) : Type 0 where
   pub line : IsText octets
   pub nothing : is_nothing (text_of octets) ≡ true
@@ -56,12 +56,12 @@ pub record Says (octets : List ℕ) (asking : Asking) : Type 0 where
   pub something : is_nothing (text_of octets) ≡ false
   pub asked : asked_in (text_of octets) ≡ Some asking
 
--- the octets of a line are neither nothing nor any request (format, Requests)
+-- the octets of a line are a mistake: neither nothing nor any request (format, Requests)
 pub record SaysWrong (octets : List ℕ) : Type 0 where
   pub something : SaysNothing octets → ⊥
   pub no_request : (asking : Asking) → Says octets asking → ⊥
 
--- a fact of a line that is no request, one that is a request, and one that is wrong (own)
+-- a fact about a line that is nothing, about one that is a request, and about one that is wrong (own)
 abbrev pub IfNothing : Line → Type 0 → Type 0
 IfNothing Nothing fact = fact
 IfNothing (Asked id spelling request) fact = Unit {0}

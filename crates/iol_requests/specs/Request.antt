@@ -14,32 +14,32 @@ use Rattle.iol_requests.specs.declared.request.Request.TheVariants.{Ask, Read, S
 abbrev pub verb_at : Members → Option Verb
 verb_at table = option_and_then verb_of (text_at (codes "do") table)
 
--- the keys of a request for one port, and of one without (format, Requests)
+-- the keys of a request for one port, and of a request without a port (format, Requests)
 abbrev pub port_keys : List (List ℕ)
 port_keys = codes "do" ∷ codes "port" ∷ []
 
 abbrev pub verb_alone : List (List ℕ)
 verb_alone = codes "do" ∷ []
 
--- what a table asks to read: a port (format, Requests)
+-- the port that a table asks to read (format, Requests)
 abbrev pub read_in : Members → Option Request
 read_in table = if has_only_keys port_keys table then option_map Read (port_in table) else None
 
--- the port of a table that may have none (format, Requests)
+-- the port of a table, which may be missing (format, Requests)
 abbrev pub port_if : Option Data → Members → Option (Option ℕ)
 port_if None table = Some None
 port_if (Some value) table = option_map Some (port_in table)
 
--- what a table asks the status of: one port, or all of them (format, Requests)
+-- the port whose status a table asks for, or all ports (format, Requests)
 abbrev pub status_in : Members → Option Request
 status_in table =
     if has_only_keys port_keys table then option_map Status (port_if (get_member (codes "port") table) table) else None
 
--- this request, if a table has nothing but its verb (format, Requests)
+-- this request, if a table has only its verb (format, Requests)
 abbrev pub alone_in : Request → Members → Option Request
 alone_in request table = if has_only_keys verb_alone table then Some request else None
 
--- what a table with a verb asks for; a change is that of a step of a script (format, Requests)
+-- what a table with a verb asks for; a change is read like a step of a script (format, Requests)
 abbrev pub request_by : Verb → Members → Option Request
 request_by verb.Configure table = option_map Ask (change_in table)
 request_by verb.Clear table = option_map Ask (change_in table)

@@ -1,4 +1,4 @@
--- The verbs of requests, and the keys of each.
+-- The verbs of requests, and their words.
 use Rattle.std.specs.Prelude.{ℕ, List, [], ◌∷◌, codes, Option, find}
 use Rattle.std.specs.Str.{bytes_eq}
 use Rattle.iol_requests.specs.declared.verb.Verb.{Verb}

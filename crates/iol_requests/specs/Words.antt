@@ -18,11 +18,11 @@ abbrev pub quote_octet : Quote → ℕ
 quote_octet Double = 0x22
 quote_octet Single = 0x27
 
--- the quotation mark, if any, that an octet is (TOML)
+-- the quotation mark that an octet is, if any (TOML)
 abbrev pub quote_of : ℕ → Option Quote
 quote_of octet = if octet == 0x22 then Some Double else if octet == 0x27 then Some Single else None
 
--- the quotes that what follows an octet is within, if any: quotes end at the next mark that is the same (format, Requests)
+-- the quotes that are open after an octet, if any: quotes end at the next mark of the same kind (format, Requests)
 abbrev pub within_after : Option Quote → ℕ → Option Quote
 within_after None octet = quote_of octet
 within_after (Some quote) octet = if octet == quote_octet quote then None else Some quote
@@ -32,16 +32,16 @@ abbrev pub as_toml : Option Quote → ℕ → ℕ
 as_toml None octet = if is_blank octet then 0x0A else octet
 as_toml (Some quote) octet = octet
 
--- the lines of TOML that pairs are, where their first octet is within quotes or not (format, Requests)
+-- the lines of TOML that pairs are, if these quotes are open at their first octet (format, Requests)
 abbrev pub lines_of : Option Quote → List ℕ → List ℕ
 lines_of within [] = []
 lines_of within (octet ∷ others) = as_toml within octet ∷ lines_of (within_after within octet) others
 
--- the document of TOML that a verb and its pairs are (format, Requests)
+-- the document of TOML of a verb and its pairs (format, Requests)
 abbrev pub document_of : Verb → List ℕ → List ℕ
 document_of verb pairs = codes "do = \"" ++ verb_name verb ++ codes "\"\n" ++ lines_of None pairs
 
--- the verb of a text, and its pairs: they are before and after the first blank (format, Requests)
+-- the verb of a text, and its pairs: what is before and after the first blank (format, Requests)
 abbrev pub verb_in : List ℕ → Option Verb
 verb_in text = verb_of (before_first is_blank text)
 

@@ -1,5 +1,5 @@
-//! What lines ask for, worked out by the check: a word or a range that is wrong in a definition and in the code alike is refused
-//! here.
+//! Worked examples of what lines ask for, evaluated by the check: they catch a word or a range that is wrong both in a definition
+//! and in the code.
 
 ghost use Rattle.std.specs.Prelude.{◌≡◌, [], ◌∷◌, ◌++◌, true, false, map, codes, Some, None};
 ghost use Rattle.iol_types.specs.declared.command.Change.TheVariants as change;
@@ -35,14 +35,14 @@ pub fn other_verbs()
     ensures quit { asked_in_words (codes "quit ") ≡ Some Quit }
 {}
 
-/// The document of TOML that a request in words is.
+/// The TOML document of a request in words.
 pub fn documents()
     ensures pairs { document_of verb.Clear (codes "port=1") ≡ codes "do = \"clear\"\nport=1" }
     ensures blanks { document_of verb.Help (codes "a \t'b c'\t\"d e\"") ≡ codes "do = \"help\"\na\n\n'b c'\n\"d e\"" }
     ensures marks { document_of verb.Help (codes "\"it's a\" 'b\" c' d") ≡ codes "do = \"help\"\n\"it's a\"\n'b\" c'\nd" }
 {}
 
-/// A verb is one of seven words, and nothing more than such a word.
+/// A verb is exactly one of seven words.
 pub fn verbs()
     ensures words { map (λ text. verb_in (codes text))
         ("configure a" ∷ "clear\tb" ∷ "rollback" ∷ "read" ∷ "status" ∷ "help" ∷ "quit" ∷ [])
@@ -52,8 +52,8 @@ pub fn verbs()
         ≡ None ∷ None ∷ None ∷ None ∷ None ∷ None ∷ None ∷ [] }
 {}
 
-/// What is no request in words: a port that no master has, a key that is missing, unknown or there twice, and a value of another
-/// type or out of its range.
+/// Texts that are no request in words: a port that no master has, a key that is missing, unknown or repeated, and a value of
+/// another type or out of its range.
 pub fn refused()
     ensures ports { map (λ text. asked_in_words (codes text)) ("clear port=0" ∷ "clear port=33" ∷ "read port=33" ∷ "status port=0" ∷ [])
         ≡ None ∷ None ∷ None ∷ None ∷ [] }
@@ -70,7 +70,7 @@ pub fn refused()
         ≡ None ∷ None ∷ None ∷ None ∷ None ∷ [] }
 {}
 
-/// Lines that are no requests.
+/// Lines that are neither a request nor a mistake.
 pub fn nothing()
     ensures nothing { map is_nothing ([] ∷ codes " " ∷ codes "\t \t" ∷ codes "#" ∷ codes "# clear port=1" ∷ [])
         ≡ true ∷ true ∷ true ∷ true ∷ true ∷ [] }
@@ -90,7 +90,7 @@ pub fn lengths()
     ensures longer { IsText (blanks 4097) → ⊥ }
 {}
 
-/// A configuration in JSON, with a number as its id, a text, and none.
+/// A configuration in JSON, with a number and with a text as its id.
 pub fn configures_in_json()
     ensures number { asked_in_json (codes "{\"id\": 7, \"do\": \"configure\", \"port\": 1, \"mode\": 1, \"validation\": 3, "
         ++ codes "\"vendor\": 500, \"device\": 43981, \"label\": \"Pump 3\"}")
@@ -111,8 +111,8 @@ pub fn other_verbs_in_json()
     ensures quit { asked_in_json (codes "{ \"do\" : \"quit\" }") ≡ plain Quit }
 {}
 
-/// What is no request in JSON: no object, a key that is there twice, missing or unknown, and a value of another type or out of its
-/// range.
+/// Texts that are no request in JSON: no object, a key that is repeated, missing or unknown, and a value of another type or out
+/// of its range.
 pub fn refused_in_json()
     ensures objects { map (λ text. asked_in_json (codes text))
         ("{}" ∷ "{" ∷ "[1]" ∷ "{\"do\": \"help\"} {}" ∷ [])
@@ -129,7 +129,7 @@ pub fn refused_in_json()
         ≡ None ∷ None ∷ None ∷ None ∷ None ∷ [] }
 {}
 
-/// An id is 0 to 2^63 - 1, or a text of at most 64 octets, and is given back where the rest of its line is wrong.
+/// An id is 0 to 2^63 - 1, or a text of at most 64 octets, and is given back if the rest of its object is wrong.
 pub fn ids()
     ensures numbers { map (λ digits. id_of (number (codes digits)))
         ("0" ∷ "9223372036854775807" ∷ "9223372036854775808" ∷ "-1" ∷ "1.0" ∷ "1e3" ∷ [])

@@ -1,9 +1,9 @@
-//! What an answer is given back with.
+//! The id of a request, which its answer repeats.
 
-/// The most octets of an id that is a text.
+/// The greatest number of octets of an id that is a text.
 pub const MOST_ID_OCTETS: usize = 64;
 
-/// What a request in JSON is told apart by, and its answer is given back with.
+/// Identifies a request in JSON; its answer repeats it.
 #[derive(Debug, Drop)]
 pub enum Id {
     /// A whole number of 0 to 2^63 - 1.

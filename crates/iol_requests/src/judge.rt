@@ -1,4 +1,4 @@
-//! What is wrong in a table that is no request.
+//! Finds what is wrong in a table that is no request.
 ghost use Rattle.std.specs.Prelude.{◌≡◌, Some, None, false, IfOk, IfErr, OnErr};
 ghost use Rattle.toml.specs.View.{table_view};
 ghost use Rattle.iol_script.specs.Table.{has_only_keys};
@@ -16,7 +16,7 @@ use std::alloc::{AllocError, Global};
 use std::str;
 use toml::Table;
 
-// What a table asks for, or what is wrong in it.
+// Reads what a table asks for, or what is wrong in it.
 //
 // # Errors
 // `AllocError` if it is out of memory.
@@ -56,7 +56,7 @@ fn fault_of_verb(alloc: Global, table: &Table) -> Result<Fault, AllocError>
     }
 }
 
-// A word that is no verb, with the verb that is most like it.
+// The fault of a word that is no verb, with the verb that is most like it.
 pub(crate) fn unknown_verb(alloc: Global, word: &[u8]) -> Result<Fault, AllocError>
     ensures { IfOk result IsOfVerb }
 {
@@ -67,8 +67,8 @@ pub(crate) fn unknown_verb(alloc: Global, word: &[u8]) -> Result<Fault, AllocErr
     })
 }
 
-// What is wrong in a table that has a verb and is no request. A key that the verb does not have is the first mistake, since it
-// may explain one that is missing.
+// What is wrong in a table that has a verb and is no request. A key that the verb does not have is reported first, since it may
+// explain a missing key.
 pub(crate) fn fault_of(alloc: Global, verb: Verb, table: &Table) -> Result<Fault, AllocError>
     requires verb { verb_at (table_view table.now) ≡ Some verb }
     requires none { request_by verb (table_view table.now) ≡ None }
@@ -85,7 +85,7 @@ pub(crate) fn fault_of(alloc: Global, verb: Verb, table: &Table) -> Result<Fault
     }
 }
 
-// The first key of a table that its verb does not have.
+// The fault of the first key of a table that its verb does not have.
 fn unknown_key(alloc: Global, verb: Verb, table: &Table) -> Result<Fault, AllocError>
     requires { has_only_keys (keys_of verb) (table_view table.now) ≡ false }
     ensures { IfOk result (λ fault. IsFaultOf verb (table_view table.now) fault) }
@@ -98,7 +98,7 @@ fn unknown_key(alloc: Global, verb: Verb, table: &Table) -> Result<Fault, AllocE
     })
 }
 
-// The first key of a table that its verb does not have, or nothing.
+// The first key of a table that its verb does not have, or an empty text.
 fn first_unknown(verb: Verb, table: &Table) -> &str {
     for key in table.keys() {
         if !is_key_of(verb, key.as_str()) {

@@ -1,4 +1,4 @@
-//! The keys of requests, and what may be at each.
+//! The keys of requests, and which values are allowed at each.
 ghost use Rattle.std.specs.Prelude.{◌≡◌, map};
 ghost use Rattle.toml.specs.View.{table_view};
 ghost use Rattle.iol_requests.specs.Key.{key_name, keys_of, use_of, is_right, is_wrong, wrong_key};
@@ -24,13 +24,13 @@ pub enum Key {
     Vendor,
     /// The DeviceID of a device.
     Device,
-    /// What a port is called.
+    /// The label of a port.
     Label,
-    /// What an answer is given back with.
+    /// The id that an answer repeats.
     Id,
 }
 
-// All keys, in the order in which they are judged.
+// All keys, in the order in which they are checked.
 pub(crate) const KEYS: [Key; 8] = [
     Key::Do,
     Key::Port,
@@ -42,7 +42,7 @@ pub(crate) const KEYS: [Key; 8] = [
     Key::Id,
 ];
 
-// Whether a verb has a key.
+// How a verb uses a key.
 #[derive(Clone, Copy, PartialEq, Eq)]
 pub(crate) enum Use {
     Needed,
@@ -51,7 +51,7 @@ pub(crate) enum Use {
 }
 
 impl Key {
-    /// Its word.
+    /// The word of the key.
     pub fn name(self) -> &'static str
         ensures { result.now ≡ key_name self }
     {
@@ -67,7 +67,7 @@ impl Key {
         }
     }
 
-    /// What may be at the key.
+    /// Describes the values that the key allows.
     pub fn may(self) -> &'static str {
         match self {
             Key::Do => "a verb in quotes",
@@ -82,7 +82,7 @@ impl Key {
         }
     }
 
-    // Whether a verb needs the key, may have it, or never has it. An `id` is of the line, and of no verb.
+    // Whether a verb needs the key, may have it, or never has it. An `id` belongs to the line, not to a verb.
     pub(crate) fn of(self, verb: Verb) -> Use
         ensures { result ≡ use_of verb self }
     {
@@ -97,7 +97,7 @@ impl Key {
         }
     }
 
-    // Whether the value at the key may be there.
+    // Whether the value at the key is allowed.
     fn is_right(self, table: &Table) -> bool
         ensures { result ≡ is_right self (table_view table.now) }
     {
@@ -113,7 +113,7 @@ impl Key {
         }
     }
 
-    // Whether the key is missing in a table with a verb, or its value may not be there.
+    // Whether the key is missing in a table with a verb, or its value is not allowed.
     fn is_wrong(self, verb: Verb, table: &Table) -> bool
         ensures { result ≡ is_wrong verb (table_view table.now) self }
     {
@@ -125,14 +125,14 @@ impl Key {
     }
 }
 
-// The first key of a table with a verb that is missing, or whose value may not be there.
+// The first key of a table with a verb that is missing, or whose value is not allowed.
 pub(crate) fn wrong_key(verb: Verb, table: &Table) -> Option<Key>
     ensures { result ≡ wrong_key verb (table_view table.now) }
 {
     KEYS.iter().copied().find(|key| key.is_wrong(verb, table))
 }
 
-// The keys of a verb, with `do`.
+// The keys of a verb, including `do`.
 pub(crate) fn keys_of(verb: Verb) -> &'static [&'static str]
     ensures { map (λ key. key.now) result.now ≡ keys_of verb }
 {

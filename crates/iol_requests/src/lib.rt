@@ -1,20 +1,20 @@
-//! What is asked of a serving master on its standard input, one request a line (docs/FORMATS.md, "Requests").
+//! Requests to a serving master on its standard input, one in each line (docs/FORMATS.md, "Requests").
 //!
-//! In come the octets of a line; out comes a [`Line`], by [`Line::read`]: nothing, a [`Request`], or a [`Mistake`] with its
+//! [`Line::read`] takes the octets of a line and returns a [`Line`]: nothing, a [`Request`], or a [`Mistake`] with its
 //! column and its words. A request is spelled in words or in JSON. Both are a table with a verb at `do`, which one function
-//! reads; what may be at a key is judged by the readers of scripts. There is no disk, thread or output here.
+//! reads; the readers of scripts check the values at its keys. There is no disk, thread or output here.
 //!
 //! Modules in reading order:
-//! - `verb` has the verbs, `request` the requests and what a table asks for, and `id` what an answer is given back with.
+//! - `verb` has the verbs, `request` the requests and what a table asks for, and `id` the id that an answer repeats.
 //! - `quote` follows quotation marks, and `words` reads a request in words as its document of TOML.
 //! - `object` reads a request in JSON as a table, and `line` a whole line.
-//! - `key` says which keys a verb has and which of a table's is wrong, `mistake` has the mistakes with their texts, and
-//!   `judge` finds the mistake of a table. `word` cuts a word that is shown, and `nearest` finds the word that was meant.
+//! - `key` says which keys a verb has and which key of a table is wrong, `mistake` has the mistakes with their texts, and
+//!   `judge` finds the mistake in a table. `word` cuts a word that is shown, and `nearest` finds the word that was meant.
 //! - `part` divides a request in words, `place` finds the column of a mistake there, and `object_place` in JSON.
-//! - `examples` has lines worked out.
+//! - `examples` has worked examples of lines.
 //!
 //! What a line asks for is defined in `specs/Line.antt`, `specs/Words.antt`, `specs/Json.antt` and `specs/Request.antt`, and
-//! when a mistake is one in `specs/Key.antt`.
+//! which fault a table has in `specs/Key.antt`.
 #![tactic(auto)]
 
 pub mod examples;

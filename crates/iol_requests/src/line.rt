@@ -14,10 +14,10 @@ use crate::words::read_words;
 use std::alloc::{AllocError, Global};
 use std::str;
 
-/// The most octets of a line before its line feed.
+/// The greatest number of octets of a line before its line feed.
 pub const LINE_OCTETS: usize = 4096;
 
-/// How a request is spelled, and its answer too.
+/// How a request is spelled; its answer is spelled the same way.
 #[derive(Clone, Copy, Debug, PartialEq, Eq)]
 pub enum Spelling {
     /// A verb, and pairs of a key and a value.
@@ -29,7 +29,7 @@ pub enum Spelling {
 /// What a line is.
 #[derive(Debug, Drop)]
 pub enum Line {
-    /// It is empty, has blanks alone, or begins with `#`; it is not answered.
+    /// It is empty, has only blanks, or begins with `#`; it is not answered.
     Nothing,
     /// It is a request.
     Asked {
@@ -37,7 +37,7 @@ pub enum Line {
         spelling: Spelling,
         request: Request,
     },
-    /// It is no request. An id is given back if it is right.
+    /// It is no request. Its id is given back, if it is valid.
     Wrong {
         id: Option<Id>,
         spelling: Spelling,
@@ -50,7 +50,7 @@ impl Line {
     ghost use Rattle.iol_requests.specs.Line.{IsText, Says, SaysNothing, SaysWrong, IfNothing, IfAsked, IfWrong};
     ghost use Rattle.iol_requests.specs.Line.{id_in, spelling_of, text_of};
 
-    /// What the octets of a line are, without its line feed. A carriage return at their end is dropped.
+    /// Reads the octets of a line, without its line feed. A carriage return at their end is dropped.
     ///
     /// # Errors
     /// `AllocError` if it is out of memory.
@@ -78,7 +78,7 @@ impl Line {
     }
 }
 
-// What a text is, which is spelled like this.
+// Reads a text that is spelled like this.
 fn read_text(alloc: Global, text: &str, spelling: Spelling) -> Result<Line, AllocError>
     ensures nothing { IfOk result (λ line. IfNothing line (is_nothing text.now ≡ true)) }
     ensures asked { IfOk result (λ line. IfAsked line
@@ -111,7 +111,7 @@ fn read_text(alloc: Global, text: &str, spelling: Spelling) -> Result<Line, Allo
     }
 }
 
-// A line that is wrong, with no id.
+// A wrong line without an id.
 fn wrong(spelling: Spelling, column: Option<usize>, fault: Fault) -> Line
     ensures { result ≡ Line.Wrong None spelling (record { column = column; fault = fault }) }
 {
@@ -132,7 +132,7 @@ fn text_of(octets: &[u8]) -> &[u8]
     }
 }
 
-// Whether a text is empty, has blanks alone, or begins with a number sign.
+// Whether a text is empty, has only blanks, or begins with a number sign.
 fn is_nothing(text: &[u8]) -> bool
     ensures { result ≡ is_nothing text.now }
 {
@@ -156,7 +156,7 @@ fn spelling_of(text: &[u8]) -> Spelling
     }
 }
 
-// Whether a text begins with an octet, which is not 00.
+// Whether a text begins with this octet, which is not 00.
 pub(crate) fn begins_with(text: &[u8], octet: u8) -> bool
     requires { 0 < octet }
     ensures { result ≡ (slice_index text.now 0 == octet) }

@@ -20,20 +20,20 @@ pub struct Mistake {
 pub enum Fault {
     /// The line has more than [`LINE_OCTETS`] octets.
     TooLong,
-    /// The line is no UTF-8.
+    /// The line is not UTF-8.
     NotUtf8,
-    /// The line begins with a brace, and is no JSON.
+    /// The line begins with a brace, but is not JSON.
     NotJson,
     /// A part of a request in words has no equals sign.
     NotPair,
-    /// A value is none of TOML.
+    /// A value is not one of TOML.
     NotToml,
-    /// A word is no verb, and this one may be meant.
+    /// A word is not a verb; `meant` is the verb that may be meant.
     UnknownVerb {
         word: Word,
         meant: Option<Verb>,
     },
-    /// A key is none of this verb, and this one may be meant.
+    /// A key does not belong to this verb; `meant` is the key that may be meant.
     UnknownKey {
         verb: Verb,
         word: Word,
@@ -47,7 +47,7 @@ pub enum Fault {
     Missing {
         key: Key,
     },
-    /// The value at a key may not be there.
+    /// The value at a key is not allowed.
     WrongValue {
         key: Key,
     },
@@ -80,7 +80,7 @@ impl fmt::Display for Fault {
     }
 }
 
-// A word that is no verb, and the verb that is meant, or all of them.
+// Writes that a word is no verb, and the verb that may be meant, or all verbs.
 fn write_verb<W: fmt::Write>(
     f: &mut fmt::Formatter<W>,
     word: &Word,
@@ -98,7 +98,7 @@ fn write_verb<W: fmt::Write>(
     Ok(())
 }
 
-// A key that a verb does not have, and the key that is meant, or all of the verb.
+// Writes that a verb does not have a key, and the key that may be meant, or all keys of the verb.
 fn write_key<W: fmt::Write>(
     f: &mut fmt::Formatter<W>,
     verb: Verb,

@@ -1,11 +1,11 @@
-//! The verb or the key that is meant by an unknown word.
+//! Finds the verb or the key that is meant by an unknown word.
 
 use crate::key::{KEYS, Key, Use};
 use crate::verb::{VERBS, Verb};
 use std::alloc::{AllocError, Global};
 use strsim::jaro;
 
-// How alike two words are at least if one may be meant for the other. Keys of scripts are compared the same way.
+// A word may be meant for another if their likeness is above this number. Keys of scripts are compared the same way.
 const LEAST_ALIKE: f64 = 0.7;
 
 // The verb that is most like a word, if one is like it.
@@ -22,7 +22,7 @@ pub(crate) fn nearest_verb(alloc: Global, word: &str) -> Result<Option<Verb>, Al
     Ok(nearest)
 }
 
-// The key of a verb that is most like a word, if one is like it. `do` is there where a verb is known, so it is not meant.
+// The key of a verb that is most like a word, if one is like it. `do` is never meant, since it is there if a verb is known.
 pub(crate) fn nearest_key(
     alloc: Global,
     verb: Verb,

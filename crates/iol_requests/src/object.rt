@@ -21,14 +21,14 @@ use json::{Error, Scratch, Value as Json};
 use std::alloc::{AllocError, Global};
 use toml::{Table, Value};
 
-// What was read of a text in JSON: its id, if it has a right one, and what it asks for, or what is wrong in it.
+// What was read from a text in JSON: its id, if it has a valid one, and its request, or what is wrong in it.
 #[derive(Drop)]
 pub(crate) struct Reading {
     pub(crate) id: Option<Id>,
     pub(crate) said: Result<Request, Mistake>,
 }
 
-// What a text asks for in JSON, or what is wrong in it.
+// Reads what a text in JSON asks for, or what is wrong in it.
 //
 // # Errors
 // `AllocError` if it is out of memory.
@@ -46,12 +46,12 @@ pub(crate) fn read_json(alloc: Global, text: &str) -> Result<Reading, AllocError
             id: None,
             said: Err(not_json(alloc, text)?),
         }),
-        // These are of other calls.
+        // Only other calls return these.
         Err(Error::TooLong | Error::DuplicateKey) => unreachable!(),
     }
 }
 
-// What a value asks for, or what is wrong in it.
+// Reads what a value asks for, or what is wrong in it.
 fn read_value(alloc: Global, text: &str, value: &Json) -> Result<Reading, AllocError>
     ensures request { IfOk result (λ reading. IfOk reading.said (λ request.
         asking_of (value_view value.now) ≡ Some (record { id = option_map id_value reading.id; request = request }))) }
@@ -70,7 +70,7 @@ fn read_value(alloc: Global, text: &str, value: &Json) -> Result<Reading, AllocE
     }
 }
 
-// The id of a value, which may be missing; `None` if there is one that is not right.
+// The id of a value: `Some(None)` if it is missing, `None` if it is not valid.
 fn id_at(alloc: Global, value: &Json) -> Result<Option<Option<Id>>, AllocError>
     ensures { IfOk result (λ id. option_map (option_map id_value) id ≡ id_at (value_view value.now)) }
 {
@@ -83,7 +83,7 @@ fn id_at(alloc: Global, value: &Json) -> Result<Option<Option<Id>>, AllocError>
     }
 }
 
-// The id that a value is.
+// The id in a value, if it is one.
 fn id_of(alloc: Global, value: &Json) -> Result<Option<Id>, AllocError>
     ensures { IfOk result (λ id. option_map id_value id ≡ id_of (value_view value.now)) }
 {
@@ -99,7 +99,7 @@ fn id_of(alloc: Global, value: &Json) -> Result<Option<Id>, AllocError>
     }
 }
 
-// What a value asks for, without its id.
+// Reads what a value asks for, without its id.
 fn read_request(
     alloc: Global,
     text: &str,
@@ -117,7 +117,7 @@ fn read_request(
     }
 }
 
-// What members ask for.
+// Reads what members ask for.
 fn read_members(
     alloc: Global,
     text: &str,
@@ -136,7 +136,7 @@ fn read_members(
     }
 }
 
-// Whether no key is there twice.
+// Whether all keys are distinct.
 fn are_distinct(members: &[(&str, Json)]) -> bool
     ensures { result ≡ are_distinct (keys (members_view members.now)) }
 {
@@ -153,7 +153,7 @@ pub(crate) fn has_key(members: &[(&str, Json)], key: &str) -> bool
     members.iter().any(|member| member.0 == key)
 }
 
-// The table with these members but the id.
+// Makes the table with these members, without the id.
 fn table_of(alloc: Global, members: &[(&str, Json)]) -> Result<Table, AllocError>
     ensures { IfOk result (λ table. table_view table ≡ table_with (members_view members.now) no_members) }
 {
@@ -164,7 +164,7 @@ fn table_of(alloc: Global, members: &[(&str, Json)]) -> Result<Table, AllocError
     Ok(table)
 }
 
-// Adds a member to a table, if it is not the id.
+// Adds a member to a table, unless it is the id.
 fn add_member(alloc: Global, table: &mut Table, key: &str, value: &Json) -> Result<(), AllocError>
     ensures { OnOk result (table_view table.new ≡ with_member key.now (value_view value.now) (table_view table.old)) }
 {
@@ -186,7 +186,7 @@ fn put(table: &mut Table, key: String, value: Value) -> Result<(), AllocError>
     Ok(())
 }
 
-// A value as one of TOML: a text or a whole number from 0 on, or else an empty array, which no key takes.
+// Translates a value to TOML: a text or a whole number from 0 on, or otherwise an empty array, which no key allows.
 fn value_of(alloc: Global, value: &Json) -> Result<Value, AllocError>
     ensures { IfOk result (λ found. view found ≡ value_of (value_view value.now)) }
 {
@@ -205,7 +205,7 @@ fn number_in(digits: &str) -> Option<u64>
     ensures number { result ≡ number_in digits.now }
     ensures bound { IfSome result (λ number. number < 2 ^ 63) }
 {
-    // The parser of numbers would take a plus.
+    // The parser of numbers would accept a plus.
     if begins_with(digits.as_bytes(), b'+') {
         return None;
     }

@@ -3,7 +3,7 @@
 use crate::quote::{is_blank, within_after};
 use std::alloc::{AllocError, Global};
 
-// A part of a text: the place of its first octet, and that after its last.
+// A part of a text: the places of its first octet and of the one after its last.
 #[derive(Clone, Copy)]
 pub(crate) struct Part {
     pub(crate) start: usize,
@@ -23,7 +23,7 @@ impl Part {
     }
 }
 
-// The parts of a text that blanks outside of quotes divide; the first one is the verb.
+// Divides a text at blanks outside of quotes. The first part is the verb.
 pub(crate) fn parts_of(alloc: Global, text: &str) -> Result<Vec<Part>, AllocError> {
     let mut parts = Vec::new(alloc);
     let mut start = 0;
@@ -39,7 +39,7 @@ pub(crate) fn parts_of(alloc: Global, text: &str) -> Result<Vec<Part>, AllocErro
     Ok(parts)
 }
 
-// Adds a part that is not empty.
+// Adds a part, unless it is empty.
 fn push_part(parts: &mut Vec<Part>, start: usize, end: usize) -> Result<(), AllocError> {
     if start < end {
         parts.push(Part { start, end })?;

@@ -1,4 +1,4 @@
-//! Where mistakes of a request in words are.
+//! Finds the place of a mistake in a request in words.
 
 use crate::mistake::{Fault, Mistake};
 use crate::part::{Part, column_of, parts_of};
@@ -6,10 +6,10 @@ use crate::word::shown;
 use std::alloc::{AllocError, Global};
 use toml::de::Error;
 
-// How many octets more the document of a request has before its first pair: `do = "` and `"`.
+// The number of octets that the document of a request has more before its first pair: `do = "` and `"`.
 const HEAD_OCTETS: usize = 7;
 
-// The mistake of a request in words whose document is one of TOML: the column is that of the key, if there is one.
+// The mistake in a request in words whose document is valid TOML. Its column is that of the key, if there is one.
 pub(crate) fn place_of(alloc: Global, text: &str, fault: Fault) -> Result<Mistake, AllocError> {
     let parts = parts_of(alloc, text)?;
     Ok(Mistake {
@@ -30,7 +30,7 @@ fn column_in(text: &str, parts: &[Part], fault: &Fault) -> Option<usize> {
     None
 }
 
-// Whether a fault is that of a key, which is written without quotes.
+// Whether a fault is about this key, which is written without quotes.
 fn has_fault(key: &str, fault: &Fault) -> bool {
     match fault {
         Fault::WrongValue { key: wrong } => key == wrong.name(),
@@ -39,8 +39,8 @@ fn has_fault(key: &str, fault: &Fault) -> bool {
     }
 }
 
-// The mistake of a request in words whose document is none of TOML: a part without an equals sign, a key that is there twice,
-// or what the parser of TOML found.
+// The mistake in a request in words whose document is not TOML: a part without an equals sign, a repeated key, or what the parser
+// of TOML found.
 pub(crate) fn mistake_of(alloc: Global, text: &str, error: &Error) -> Result<Mistake, AllocError> {
     let parts = parts_of(alloc, text)?;
     for (number, part) in parts.iter().enumerate() {
@@ -61,7 +61,7 @@ pub(crate) fn mistake_of(alloc: Global, text: &str, error: &Error) -> Result<Mis
     })
 }
 
-// What is wrong in the part of this number after the verb, if it is no pair, or its key is there before.
+// What is wrong in the part of this number after the verb, if it is no pair, or if a part before it has its key.
 fn fault_at(text: &str, parts: &[Part], number: usize, part: Part) -> Option<Fault> {
     if number == 0 {
         return None;

@@ -19,7 +19,7 @@ impl Quote {
         }
     }
 
-    // The quotation mark that an octet is.
+    // The quotation mark that an octet is, if it is one.
     fn of(octet: u8) -> Option<Quote>
         ensures { result ≡ quote_of octet }
     {
@@ -31,7 +31,7 @@ impl Quote {
     }
 }
 
-// The quotes that what follows an octet is within.
+// The quotes that are open after an octet, if any.
 pub(crate) fn within_after(within: Option<Quote>, octet: u8) -> Option<Quote>
     ensures { result ≡ within_after within octet }
 {
@@ -42,7 +42,7 @@ pub(crate) fn within_after(within: Option<Quote>, octet: u8) -> Option<Quote>
     }
 }
 
-// An octet of a request in words as an octet of TOML.
+// Translates an octet of a request in words to TOML: outside of quotes a blank becomes a line feed.
 pub(crate) fn as_toml(within: Option<Quote>, octet: u8) -> u8
     ensures { result ≡ as_toml within octet }
 {

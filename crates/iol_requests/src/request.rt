@@ -1,4 +1,4 @@
-//! Requests, and the tables that say them.
+//! Requests, and how they are read from tables.
 ghost use Rattle.std.specs.Prelude.{◌≡◌};
 ghost use Rattle.toml.specs.View.{table_view};
 ghost use Rattle.iol_requests.specs.declared.request.Request.{Request};
@@ -9,18 +9,18 @@ use iol_script::{change_in, has_only_keys, port_in, text_at, value_at};
 use iol_types::{Change, PortId};
 use toml::Table;
 
-/// What is asked of a master.
+/// A request to a master.
 #[derive(Clone, Copy, Debug, PartialEq, Eq)]
 pub enum Request {
-    /// A port is changed.
+    /// Changes a port.
     Ask(Change),
-    /// What a port keeps is read.
+    /// Reads what a port keeps.
     Read(PortId),
-    /// How this port is, or each port.
+    /// Asks for the status of this port, or of each port.
     Status(Option<PortId>),
-    /// The requests that there are.
+    /// Lists the requests.
     Help,
-    /// The end of the master.
+    /// Ends the master.
     Quit,
 }
 

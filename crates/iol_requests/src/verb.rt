@@ -7,19 +7,19 @@ use std::fmt;
 /// What a request asks for, in one word.
 #[derive(Clone, Copy, Debug, PartialEq, Eq)]
 pub enum Verb {
-    /// A port gets a configuration.
+    /// Gives a port a configuration.
     Configure,
-    /// The parameter sets of a port are deleted.
+    /// Deletes the parameter sets of a port.
     Clear,
-    /// The parameter set of a port and its previous one are exchanged.
+    /// Exchanges the parameter set of a port and its previous one.
     Rollback,
-    /// What a port keeps.
+    /// Reads what a port keeps.
     Read,
-    /// How one port or each port is.
+    /// Asks for the status of one port or of each port.
     Status,
-    /// The requests that there are.
+    /// Lists the requests.
     Help,
-    /// The end of the master.
+    /// Ends the master.
     Quit,
 }
 
@@ -35,7 +35,7 @@ pub(crate) const VERBS: [Verb; 7] = [
 ];
 
 impl Verb {
-    /// Its word.
+    /// The word of the verb.
     pub fn name(self) -> &'static str
         ensures { result.now ≡ verb_name self }
     {
@@ -50,7 +50,7 @@ impl Verb {
         }
     }
 
-    // The verb that has this word.
+    // The verb that has this word, if there is one.
     pub(crate) fn named(word: &[u8]) -> Option<Verb>
         ensures { result ≡ verb_of word.now }
     {

@@ -2,7 +2,7 @@
 
 use arrayvec::ArrayString;
 
-/// The most octets of a word that are shown.
+/// The greatest number of octets of a word that are shown.
 pub const MOST_SHOWN: usize = 32;
 
 /// A word of a line as it is shown: at most 32 octets of ASCII, each from 21 to 7E. Other characters are shown as `?`, and

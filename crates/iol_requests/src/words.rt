@@ -1,4 +1,4 @@
-//! Requests in words, as documents of TOML (docs/FORMATS.md, "Requests").
+//! Reads requests in words, as documents of TOML (docs/FORMATS.md, "Requests").
 ghost use Rattle.std.specs.Prelude.{◌≡◌, ◌<◌, length, position, Some, None, IfOk, IfSome, OnErr};
 ghost use Rattle.std.specs.List.{before_first, after_first};
 ghost use Rattle.iol_requests.specs.Words.{is_blank, document_of, asked_in_words};
@@ -11,7 +11,7 @@ use crate::request::Request;
 use crate::verb::Verb;
 use std::alloc::{AllocError, Global};
 
-// What a text asks for in words, or what is wrong in it.
+// Reads what a text in words asks for, or what is wrong in it.
 //
 // # Errors
 // `AllocError` if it is out of memory.
@@ -57,7 +57,7 @@ fn first_blank(text: &[u8]) -> Option<usize>
     text.iter().position(|octet| is_blank(*octet))
 }
 
-// The document that a verb and its pairs are.
+// The TOML document of a verb and its pairs.
 fn document_of(alloc: Global, verb: Verb, pairs: &[u8]) -> Result<Vec<u8>, AllocError>
     ensures { IfOk result (λ document. document.items ≡ document_of verb pairs.now) }
 {

@@ -1,4 +1,4 @@
--- The number of a run's core does not fall, and it is the one that is told as acknowledged.
+-- The number of a run's core does not fall, and it is the one that is reported as acknowledged.
 use Rattle.std.proofs.Common.{◌≡◌, refl, ℕ, nat_le, Bool, true, false, List, [], ◌∷◌, length, Option, Some, None, ap, sym}
 use Rattle.std.proofs.Common.{subst, arith}
 use Rattle.iol_types.specs.Command.{command_of}
@@ -87,7 +87,7 @@ stays_risen : (old new : CoreView) → new ≡ old → Rises old new []
 stays_risen old new same = silent_rises 0 old new [] refl (ap (λ (c : CoreView). c.number) same)
 
 module _ {D L : Type 0} (disk : D → Disk) (connection : L → ℕ) (allows : L → LinkCall → LinkAnswer → L → Type 0) where
-  -- of steps that were made from a fresh run on
+  -- for steps that were made from a fresh run
   pub acks_rise : (steps : List Step) (waits : ℕ) (journal : JournalView D) (links : List L) (old new : RunView D L)
       → IsFresh disk journal links old → HasMade disk connection allows steps waits old new → AcksRise journal.standing.number new.events
   acks_rise steps waits journal links old new fresh made =

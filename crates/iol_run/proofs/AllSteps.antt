@@ -1,4 +1,4 @@
--- What each step of a run tells holds of all that its steps tell, one behind the other.
+-- What holds of the events of each step of a run holds of the events of all its steps, one after the other.
 use Rattle.std.proofs.Common.{◌≡◌, ℕ, List, [], ◌∷◌, ◌++◌, ap, sym, ◌∙◌, subst, append-nil, append_assoc}
 use Rattle.iol_disk.specs.Disk.{Disk}
 use Rattle.iol_journal.specs.Journals.{JournalView}
@@ -13,7 +13,7 @@ use Rattle.iol_run.specs.Tasks.{HasMade}
 use Rattle.iol_run.specs.declared.turn.Turned.{Turned}
 use Rattle.iol_run.specs.declared.step.Step.{Step}
 
--- of a view of the master, what is told from one value of it to the next: nothing where it stays, and more behind what was told
+-- a claim about the events from one value of a view of the master to the next: it holds of none if the view stays, and of joined events
 module _ {D L X : Type 0} (disk : D → Disk) (connection : L → ℕ) (allows : L → LinkCall → LinkAnswer → L → Type 0)
     (view : CoreOnDiskView D → X) (Tells : X → X → List Stamp → Type 0) (same : (old new : X) → new ≡ old → Tells old new [])
     (behind : (old mid new : X) (told more : List Stamp) → Tells old mid told → Tells mid new more → Tells old new (told ++ more))
@@ -43,7 +43,7 @@ module _ {D L X : Type 0} (disk : D → Disk) (connection : L → ℕ) (allows :
         tells = behind (view old.master) (view mid.master) (view new.master) now later.more one later.tells;
       }
 
-  -- of steps that were made from a fresh run on
+  -- for steps that were made from a fresh run
   pub all_tell : (made : List Step) (waits : ℕ) (journal : JournalView D) (links : List L) (old new : RunView D L)
       → IsFresh disk journal links old → HasMade disk connection allows made waits old new
       → Tells (view old.master) (view new.master) new.events

@@ -1,4 +1,4 @@
--- Each client is answered once, as what was told before says.
+-- Each client is answered once, as the events before say.
 use Rattle.std.proofs.Common.{◌≡◌, refl, inl, ⊎_elim, ℕ, nat_le, Bool, true, false, if◌then◌else◌, List, [], ◌∷◌, ◌++◌, length}
 use Rattle.std.proofs.Common.{Option, Some, None, Result, Ok, Err, ap, sym, ◌∙◌, subst, append-nil, append_assoc}
 use Rattle.iol_types.specs.Command.{CommandValue, command_of}
@@ -43,12 +43,12 @@ use Rattle.iol_run.specs.declared.step.Step.{Step}
 use Rattle.iol_run.specs.declared.step.Step.TheVariants.{Client, Port, Flush}
 use Rattle.iol_run.proofs.Unanswered.{answers_in, port_answers, flusher_answers}
 
--- what a core knows of the disk: it runs where no failure was told, and has stopped for the disk where one was
+-- what a core knows of the disk: it runs if no failure was reported, and has stopped for the disk if one was
 record Knows (events : List Stamp) (core : CoreView) : Type 0 where
   runs : (HasFailure events → ⊥) → core.stopped ≡ None
   failed : HasFailure events → core.stopped ≡ Some DiskFailed
 
--- a core goes on as it was, and no failure is told; or it stops for the disk, and that is told
+-- a core stays as it was, and no failure is reported; or it stops for the disk, and that is reported
 record GoesOn (old new : CoreView) (told : List Stamp) : Type 0 where
   same : new.stopped ≡ old.stopped
   none : HasFailure told → ⊥
@@ -176,7 +176,7 @@ module _ (first : ℕ) (start : State) where
       no : e ∷ answers_in told ≡ [] → ⊥
       no h = cc
 
-  -- an answer or none, behind which more is answered
+  -- an event that answers or not, after which more is answered
   next_joined : (Behind Then : List CommandValue → Type 0) (before : List Stamp) (commands more : List CommandValue) (e : Event) (b : Bool)
       → ((rest : List CommandValue) → Behind rest → Then (rest ++ more)) → AnswersNext Behind first start before commands e b
       → AnswersNext Then first start before (commands ++ more) e b
@@ -199,7 +199,7 @@ module _ (first : ℕ) (start : State) where
       told))
       before e told (is_answer e) none (λ behind. answers_none t (before ++ record { event = e; clock = t } ∷ []) told behind)
 
-  -- what answers more, behind what answers some
+  -- events that answer more, after events that answer some
   answers_join : (before one two : List Stamp) (commands more : List CommandValue) → AnswersClients first start before commands one
       → AnswersClients first start (before ++ one) more two → AnswersClients first start before (commands ++ more) (one ++ two)
   answers_join before [] two commands more none behind =
@@ -269,7 +269,7 @@ module _ (first : ℕ) (start : State) where
     step_answers t before Flush old new ports last told turned is stands knows =
         answers_none t before told (turn_says answers_in flusher_answers disk old.committed old new told turned is.1)
 
-    -- what a run tells answers the clients of its steps
+    -- the events of a run answer the clients of its steps
     record HasAnswered (made : List Step) (old new : RunView D L) : Type 0 where
       more : List Stamp
       events : new.events ≡ old.events ++ more
@@ -314,7 +314,7 @@ module _ (first : ℕ) (start : State) where
           stands = behind.stands;
         }
 
-    -- of steps that were made from a fresh run on
+    -- for steps that were made from a fresh run
     pub all_answered : (made : List Step) (waits : ℕ) (journal : JournalView D) (links : List L) (old new : RunView D L)
         → first ≡ journal.standing.number → start ≡ journal.standing.state → IsFresh disk journal links old
         → HasMade disk number steps made waits old new

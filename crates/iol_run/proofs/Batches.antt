@@ -1,4 +1,4 @@
--- A core stays in step with its flusher where a batch is taken, published and acknowledged.
+-- A core stays in step with its flusher as a batch is taken, published and acknowledged.
 use Rattle.std.proofs.Common.{◌≡◌, refl, ◌≤◌, ◌+◌, ◌&&◌, ◌||◌, ◌==◌, ℕ, nat_lt, nat_le, Bool, true, false, List, ◌++◌, length, take, drop}
 use Rattle.std.proofs.Common.{Some, None, ap, sym, ◌∙◌, subst, arith, length-append}
 use Rattle.std.proofs.Math.Seq.{take-append_seam, drop-append_seam}
@@ -52,7 +52,7 @@ all true true false d one two three four = three
 all true false c d one two three four = two
 all false b c d one two three four = one
 
--- it goes on where the journal stands
+-- the batch continues where the journal ends
 taken_fits : (start : Start) (published : List CommandValue) (old new : CoreView) (s : Standing) (batch : Batch) (room : ℕ)
     → s.number ≡ start.number + length published → s.state ≡ after start.state published → IsDurable start old published
     → IsTaken old room new batch → ((octets : ℕ) → octets ≤ room → slots_of octets ≤ (renewed s.layout).slots)
@@ -106,7 +106,7 @@ module _ {D : Type 0} where
       given (Publishing j written) published t list taken same stands fits durable = absurd taken
       given (Failed d f) published t list taken same stands fits durable = absurd taken
 
-  -- the run goes on
+  -- the run continues
   pub given_running : (disk : D → Disk) (start : Start) (old new : CoreView) (before behind : FlusherView D) (batch : Batch) (room : ℕ)
       → HasTaken before.stage batch behind.stage → behind.published ≡ before.published → IsTaken old room new batch
       → KeepsRunning disk start (record { core = old; flusher = before; committed = None })
@@ -200,7 +200,7 @@ in_flight start core committed durable is = record {
       ∙ (ap (take (length committed.commands)) is.queue ∙ take-append_seam committed.commands is.behind));
 }
 
--- what is behind it once it is acknowledged
+-- the queue after the batch is acknowledged
 acknowledged_queue : (core : CoreView) (commands seen : List CommandValue) → IsInFlight core commands → (acknowledged core seen).queue
     ≡ drop (length commands) core.queue
 acknowledged_queue core commands seen is = ap (λ (n : ℕ). drop n core.queue) is.flight

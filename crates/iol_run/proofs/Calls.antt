@@ -1,5 +1,5 @@
 -- A core stays in step with its flusher in each call of a port and at the end of its machine, and the run of its journal
--- goes on.
+-- continues.
 use Rattle.std.proofs.Common.{◌≡◌, refl, ◌&&◌, true, List, [], ◌∷◌, Option, Some, None, is_none, ap, sym, ◌∙◌, subst}
 use Rattle.std.proofs.lemmas.Bool.{and_parts}
 use Rattle.iol_types.specs.Command.{CommandValue}
@@ -33,7 +33,7 @@ pub waits_with : (committed : Option CommittedView) (core : CoreView) (permits :
 waits_with None core permits = refl
 waits_with (Some committed) core permits = refl
 
--- a command that waits last passes, where all that wait do
+-- the last waiting command is legal, if all waiting commands are
 none_is : (fault : Option CommandFault) → is_none fault && true ≡ true → fault ≡ None
 none_is None is = refl
 none_is (Some fault) is = absurd cc
@@ -105,7 +105,7 @@ module _ {D : Type 0} where
         was);
   }
 
-  -- and the run goes on
+  -- and the run continues
   pub call_running : (disk : D → Disk) (start : Start) (call : Call) (old new : CoreView) (heard : Reply) (flusher : FlusherView D)
       (committed : Option CommittedView)
       → Replies call old new heard → Passes call old heard → IsInStep start old flusher committed
@@ -115,7 +115,7 @@ module _ {D : Type 0} where
       let becomes = replied 0 call old new heard is in
       changed_running disk start old new becomes.change flusher committed becomes.new_is (becomes.passing passes) step
 
-  -- a step of a port, behind which all that waits passes
+  -- a step of a port, after which all waiting commands are legal
   pub stepped_running : (disk : D → Disk) (start : Start) (old new : CoreView) (told : List Event) (flusher : FlusherView D)
       (committed : Option CommittedView)
       → Becomes ⊥ old new told → legal new.durable new.queue ≡ true → IsInStep start old flusher committed

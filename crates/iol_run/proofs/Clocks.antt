@@ -17,7 +17,7 @@ use Rattle.iol_run.specs.Schedules.{IsFresh}
 use Rattle.iol_run.specs.Tasks.{HasMade}
 use Rattle.iol_run.specs.declared.step.Step.{Step}
 
--- a disk became another, which is as honest, and whose clock is later or the same where it is honest
+-- a disk became another, which is honest if the first was, and whose clock is then later or the same
 record IsLater (old new : Disk) : Type 0 where
   pub honest : new.honest ≡ old.honest
   pub clocks : IsTrue old.honest → clock old.content ≤ clock new.content
@@ -62,13 +62,13 @@ failed_later calls left why old new is =
     later_still old failed.between new (made_later (take failed.place (is.call ∷ [])) old failed.between failed.before)
     (left_later failed.call failed.between new failed.left)
 
--- a step's
+-- the disk is later after a step
 step_later : (old new : Disk) (told : List Event) → DiskStep old new told → IsLater old new
 step_later old new told (Stays same sound) = subst (λ (d : Disk). IsLater old d) (sym same) (later_same old)
 step_later old new told (Makes calls left made silent) = first_later calls left old new made
 step_later old new told (Fails calls left why failed telling) = failed_later calls left why old new failed
 
--- events with the clock at the end behind others
+-- events with the clock at the end, after others
 rise_stamped : (before t : ℕ) (told : List Event) → before ≤ t → ClocksRise before t (stamped t told)
 rise_stamped before t [] le = le
 rise_stamped before t (e ∷ told) le = (le, rise_stamped t t told (omega arith))
@@ -110,7 +110,7 @@ module _ {D L : Type 0} (disk : D → Disk) (connection : L → ℕ) (allows : L
             (rise_more begun (clock_of disk old.master) (clock_of disk mid.master) old.events made.3.0 was (one.clocks h)));
       }
 
-  -- of a schedule that was run from a fresh run on
+  -- for a schedule that was run from a fresh run
   pub clocks_rise : (steps : List Step) (waits : ℕ) (journal : JournalView D) (links : List L) (old new : RunView D L)
       → IsFresh disk journal links old
       → HasMade disk connection allows steps waits old new → IsTrue (disk_at new).honest

@@ -1,4 +1,4 @@
--- The core of a run stands as what was told says.
+-- The core of a run is as the events say.
 use Rattle.std.proofs.Common.{◌≡◌, ◌≤◌, refl, ℕ, nat_le, Bool, true, false, List, [], ◌∷◌, ◌++◌, length, Option, Some, None, ap, sym, ◌∙◌}
 use Rattle.std.proofs.Common.{subst, arith}
 use Rattle.iol_types.specs.Command.{CommandValue, command_of}

@@ -1,4 +1,4 @@
--- What the events of a run count: how many commands were accepted and acknowledged, and that a failure of the disk was told.
+-- What the events of a run count: the accepted and the acknowledged commands, and whether a failure of the disk was reported.
 use Rattle.std.proofs.Common.{◌≡◌, ◌≤◌, refl, ◌+◌, inl, inr, ℕ, nat_le, Bool, true, false, List, [], ◌∷◌, ◌++◌, length, Option, Some, None}
 use Rattle.std.proofs.Common.{Result, Ok, Err, ap, sym, ◌∙◌, subst, arith, length-append, length-drop}
 use Rattle.iol_types.specs.Command.{CommandValue, command_of}
@@ -31,14 +31,14 @@ use Rattle.iol_run.specs.declared.turn.Turned.TheVariants.{Made, Idle, Waited}
 use Rattle.iol_run.specs.declared.step.Step.{Step}
 use Rattle.iol_run.specs.declared.step.Step.TheVariants.{Client, Port, Flush}
 
--- so many were accepted as are durable or wait, and so many acknowledged as are durable; a core that knows a failure of
--- the disk has told it
+-- the number of accepted commands is that of those that are durable or wait, and the acknowledged number is the durable one; a core
+-- that knows a failure of the disk has reported it
 pub record IsCounted (first : ℕ) (core : CoreView) (events : List Stamp) : Type 0 where
   pub count : first + length (accepted events) ≡ core.number + length core.queue
   pub acked_is : acked first events ≡ core.number
   pub failure : writes_no_more core.stopped ≡ true → HasFailure events
 
--- a failure that was told stays told
+-- a failure that was reported stays reported
 pub failure_stays : (events more : List Stamp) → HasFailure events → HasFailure (events ++ more)
 failure_stays [] more failed = absurd failed
 failure_stays (e ∷ events) more (inl here) = inl here
@@ -48,7 +48,7 @@ pub failure_told : (events more : List Stamp) → HasFailure more → HasFailure
 failure_told [] more failed = failed
 failure_told (e ∷ events) more failed = inr (failure_told events more failed)
 
--- a core with the same number, as many that wait and the same cause to stop
+-- a core with the same number, the same number of waiting commands and the same cause to stop
 record IsAlike (old new : CoreView) : Type 0 where
   number : new.number ≡ old.number
   waits : length new.queue ≡ length old.queue
@@ -62,7 +62,7 @@ alike_same old new same = record {
 }
 
 module _ (first t : ℕ) where
-  -- more events, after which as many are accepted and as many acknowledged as the core has
+  -- more events, after which the numbers of accepted and acknowledged commands are those of the core
   more_counted : (old new : CoreView) (events more : List Stamp)
       → length (accepted more) + (old.number + length old.queue) ≡ new.number + length new.queue → acked old.number more ≡ new.number
       → (writes_no_more new.stopped ≡ true → HasFailure (events ++ more)) → IsCounted first old events

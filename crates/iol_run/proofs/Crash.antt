@@ -63,7 +63,7 @@ module _ {D : Type 0} (disk : D → Disk) (start : Start) where
           (holds disk start.number start.state run.master.flusher.published (waiting_of run.master.committed run.master.core)
           (marks_of run.begun start.number run.events) run.master.flusher.stage marked)
 
--- what an image means is the number and the state of how a journal stands on it
+-- the meaning of an image is the number and the state of the journal on it
 abbrev pub number_in : Result Meaning Cause → ℕ
 number_in (Ok m) = m.number
 number_in (Err cause) = 0

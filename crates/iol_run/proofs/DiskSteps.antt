@@ -1,4 +1,4 @@
--- What a step makes of the disk, and tells of it.
+-- What a step makes of the disk, and what it reports of that.
 use Rattle.std.proofs.Common.{◌≡◌, refl, ⊎_elim, ℕ, nat_le, Bool, true, false, List, [], ◌∷◌, ◌++◌, length, Option, Some, None, Result, Ok}
 use Rattle.std.proofs.Common.{Err, ap, sym, subst}
 use Rattle.iol_types.specs.Command.{CommandValue, command_of}
@@ -33,11 +33,11 @@ use Rattle.iol_run.specs.declared.turn.Turned.TheVariants.{Made, Idle, Waited}
 use Rattle.iol_run.specs.declared.step.Step.{Step}
 use Rattle.iol_run.specs.declared.step.Step.TheVariants.{Client, Port, Flush}
 
--- events that tell of no failure
+-- events that report no failure
 abbrev pub TellsNone : List Event → Type 0
 TellsNone told = (t : ℕ) → HasFailure (stamped t told) → ⊥
 
--- the disk stays, and no failure is told; a call is made, and nothing told; or one fails, and that is told
+-- the disk stays, and no failure is reported; a call is made, and nothing is reported; or one fails, and that is reported
 pub data DiskStep (old new : Disk) (told : List Event) : Type 0 where
   Stays : (same : new ≡ old) (sound : TellsNone told) → DiskStep old new told
   Makes : (calls left : List Call) (made : MakesFirst calls left old new (Ok tt)) (silent : told ≡ []) → DiskStep old new told

@@ -35,7 +35,7 @@ idle_unmade : Idle ≢ Made
 idle_unmade same = cc
 
 module _ {D : Type 0} (layout : Layout) (disk : D → Disk) where
-  -- where the flusher is served and finds nothing to do, nothing waits
+  -- if the flusher is served and finds nothing to do, nothing waits
   serves_none : (need : Need) (old new : CoreOnDiskView D) (told : List Event) → met_by old ≡ need
       → Serves disk need old new told Idle → IsServed layout old.core old.flusher.stage None → (writes_no_more old.core.stopped ≡ true → ⊥)
       → length new.core.queue ≡ 0

@@ -1,4 +1,4 @@
--- A failure of the disk is told exactly where it was counted.
+-- A failure of the disk is reported exactly if it was counted.
 use Rattle.std.proofs.Common.{◌≡◌, ◌≤◌, inl, inr, ⊎_elim, ℕ, List, [], ◌∷◌, ◌++◌, map, Result, Ok, Err, IfOk, ap, sym, ◌∙◌, subst, arith}
 use Rattle.iol_disk.specs.Calls.{Call, write, sync, Made, LeftBy}
 use Rattle.iol_disk.specs.Disk.{Disk, HasFailed}
@@ -22,7 +22,7 @@ use Rattle.iol_run.specs.declared.schedule.RunFault.{RunFault}
 use Rattle.iol_run.specs.declared.schedule.Trace.{Trace}
 use Rattle.iol_run.specs.declared.step.Step.{Step}
 
--- what is told of failures, and that none is taken back
+-- which failures are reported, and that the count of them does not fall
 record Counts (old new : Disk) (told : List Stamp) : Type 0 where
   pub tells : TellsFailures old new told
   pub most : old.failures ≤ new.failures
@@ -75,7 +75,7 @@ module _ {D L : Type 0} (disk : D → Disk) (connection : L → ℕ) (allows : L
   abbrev disk_in : CoreOnDiskView D → Disk
   disk_in master = disk (disk_of master.flusher.stage)
 
-  -- of steps that were made from a fresh run on
+  -- for steps that were made from a fresh run
   pub tells_failures : (steps : List Step) (waits : ℕ) (journal : JournalView D) (links : List L) (old new : RunView D L)
       → IsFresh disk journal links old
       → HasMade disk connection allows steps waits old new → TellsFailures (disk journal.disk) (disk_in new.master) new.events

@@ -1,4 +1,4 @@
--- A turn of the flusher tells of no port.
+-- A turn of the flusher has no events of a port.
 use Rattle.std.proofs.Common.{◌≡◌, ℕ, List, [], ◌∷◌, Option, Some, None, ap, ◌∙◌}
 use Rattle.iol_disk.specs.Disk.{Disk}
 use Rattle.iol_flush.specs.declared.need.Need.{Need}

@@ -37,7 +37,7 @@ module _ {D L : Type 0} (disk : D → Disk) (connection : L → ℕ) (allows : L
       let more = made_parts front rest made.1 made.2 new made.5 in
       (more.0, waits_of made.0 + more.1, more.2, (made.0, more.1, made.2, made.3, refl, more.3), omega (arith, made.4, more.4), more.5)
 
-  -- a failure that was told before a step is told after it
+  -- a failure that was reported before a step is reported after it
   pub steps_told : (steps : List Step) (waits : ℕ) (old new : RunView D L) → HasMade disk connection allows steps waits old new
       → HasFailure old.events → HasFailure new.events
   steps_told [] waits old new made failed = subst (λ (r : RunView D L). HasFailure r.events) (sym made.1) failed
@@ -65,7 +65,7 @@ module _ {D L : Type 0} (disk : D → Disk) (connection : L → ℕ) (allows : L
               made.2.ports old.events did.0 made.0 did.1 was.served was.counted);
         })
 
-    -- as many turns of the flusher are fewer left, while none waits and no failure is told
+    -- each turn of the flusher leaves one turn fewer, while none had to wait and no failure is reported
     turns_made : (n waits : ℕ) (old new : RunView D L) → HasMade disk connection allows (replicate n Flush) waits old new → Holds old
         → waits ≡ 0 → (HasFailure new.events → ⊥)
         → left_of layout new.master ≤ left_of layout old.master - n
@@ -126,7 +126,7 @@ module _ {D L : Type 0} (disk : D → Disk) (connection : L → ℕ) (allows : L
         let all = mul-le-mul_left (batch_turns layout) is.served.few_wait in
         omega (arith, left, all)
 
-    -- where enough turns end a schedule
+    -- if enough turns end a schedule
     turns_end : (front : List Step) (n waits : ℕ) (old new : RunView D L)
         → HasMade disk connection allows (front ++ replicate n Flush) waits old new → Holds old → waits ≡ 0
         → (HasFailure new.events → ⊥) → queue_turns layout ≤ n → acked first new.events ≡ first + length (accepted new.events)
@@ -140,7 +140,7 @@ module _ {D L : Type 0} (disk : D → Disk) (connection : L → ℕ) (allows : L
         (λ (failed : writes_no_more new.master.core.stopped ≡ true). sound (last.counted.failure failed)) left in
         omega (arith, last.counted.acked_is, last.counted.count, empty)
 
-    -- of steps that were made from a fresh run on; a count of those that waited tells none only where there are none
+    -- for steps that were made from a fresh run; the count of those that waited is 0 only if there were none
     pub all_flushed : (steps : List Step) (waits count : ℕ) (journal : JournalView D) (links : List L) (old new : RunView D L)
         → IsFresh disk journal links old → renewed journal.standing.layout ≡ layout → journal.standing.number ≡ first
         → HasMade disk connection allows steps waits old new → IsCountOf count waits

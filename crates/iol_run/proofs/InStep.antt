@@ -1,4 +1,4 @@
--- A core stays in step with its flusher, and the run of its journal goes on.
+-- A core stays in step with its flusher, and the run of its journal continues.
 use Rattle.std.proofs.Common.{◌≡◌, refl, ◌+◌, ◌&&◌, ℕ, Bool, true, false, if◌then◌else◌, List, [], ◌∷◌, ◌++◌, length, drop, Option, Some}
 use Rattle.std.proofs.Common.{None, is_none, Result, Ok, Err, ap, sym, ◌∙◌, subst, arith, rules, append_assoc, length-append}
 use Rattle.std.proofs.Math.Seq.{drop-append_seam}
@@ -23,7 +23,7 @@ use Rattle.iol_journal.specs.Runs.{Mark}
 use Rattle.iol_run.specs.EngineOnDisk.{EngineOnDiskView}
 use Rattle.iol_run.specs.CoreOnDisk.{CoreOnDiskView, IsInFlight, HasFlight, IsInStep, IsRunning, KeepsRunning, waiting_of}
 
--- a command that is accepted passes in the live state
+-- a command that is accepted is legal in the live state
 submit_causes : (stopped : Bool) (checked : Option CommandFault) (queue : Option SubmitFault)
     → (if stopped then Some fault.Stopped else first_cause checked queue) ≡ None → checked ≡ None
 submit_causes true checked queue none = search rules
@@ -71,12 +71,12 @@ module _ {D : Type 0} where
   submit_in_step start old new command flusher committed (Err f) is was =
       subst (λ (c : CoreView). IsInStep start c flusher committed) (sym is.1) was
 
--- what waits behind a batch that is in flight
+-- what waits after a batch that is in flight
 pub behind_flight : (core : CoreView) (commands : List CommandValue) (is : IsInFlight core commands) → drop (length commands) core.queue
     ≡ is.behind
 behind_flight core commands is = ap (drop (length commands)) is.queue ∙ drop-append_seam commands is.behind
 
--- the published list and what waits behind it, where a batch is published and not yet acknowledged
+-- the published list and what waits after it, if a batch is published and not yet acknowledged
 pub all_of : (core : CoreView) (published before commands : List CommandValue) → published ≡ before ++ commands
     → (is : IsInFlight core commands)
     → published ++ drop (length commands) core.queue ≡ before ++ core.queue
@@ -104,7 +104,7 @@ count_is start core flusher (Some committed) is =
     ap (λ (cs : List CommandValue). start.number + length cs) (all_of core flusher.published committed.before committed.commands is.1 is.2)
     ∙ omega (arith, length-append committed.before core.queue, is.0.number)
 
--- one more waits behind the published list
+-- one more waits after the published list
 pub waits_more : {D : Type 0} (start : Start) (core : CoreView) (flusher : FlusherView D) (committed : Option CommittedView)
     (command : CommandValue)
     → IsInStep start core flusher committed → waiting_of committed (queued core command) ≡ waiting_of committed core ++ command ∷ []
@@ -137,7 +137,7 @@ module _ {D : Type 0} (disk : D → Disk) (start : Start) (marks : List Mark) wh
 pub master_is : {D : Type 0} {one two : EngineOnDiskView D} → one ≡ two → one.master ≡ two.master
 master_is {D} same = ap (λ (m : EngineOnDiskView D). m.master) same
 
--- the run goes on as a contract sees it, from where no batch is to be acknowledged
+-- the run continues as a contract sees it, if no batch is to be acknowledged
 pub from_none : {D : Type 0} (disk : D → Disk) (start : Start) (seen next : CoreOnDiskView D) (core : CoreView) (flusher : FlusherView D)
     (committed : Option CommittedView)
     → record { core = core; flusher = flusher; committed = committed } ≡ seen → committed ≡ None

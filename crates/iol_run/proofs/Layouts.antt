@@ -42,7 +42,7 @@ turns_within sectors image s is =
     let size = size-renewed s.layout laid_out in
     within (renewed s.layout) (total s.layout) ports (renewed-some s.layout laid_out) (wide_ports s.layout laid_out) (omega (arith, size))
 
--- where fewer turns are enough, more are
+-- if fewer turns are enough, more are
 pub more_flushed : (least more : ℕ) (made : List Step) (first waits : ℕ) (events : List Stamp) → least ≤ more
     → AllFlushed least made first waits events → AllFlushed more made first waits events
 more_flushed least more made first waits events le all = λ ends none sound.

@@ -1,4 +1,4 @@
--- What a step of a port tells of its link is a run of it, and of no other.
+-- The events of a step of a port are a run of its link, and of no other.
 use Rattle.std.proofs.Common.{◌≡◌, refl, inl, inr, ℕ, nat_eq, Bool, true, false, if◌then◌else◌, List, [], ◌∷◌, ◌++◌, Option, Some, None}
 use Rattle.std.proofs.Common.{Result, Ok, Err, ap, sym, ◌∙◌, subst}
 use Rattle.iol_types.specs.Command.{CommandValue}
@@ -24,7 +24,7 @@ use Rattle.iol_engine.specs.PortSteps.{Hears, HearsCore, HasEvent, IsStatusTold,
 use Rattle.iol_engine.specs.PortSteps.{accepted_told, store_in}
 
 module _ (q t : ℕ) where
-  -- the core's replies tell of no link
+  -- the core's replies have no events of a link
   accepted_calls : (n : ℕ) (command : Option CommandValue) → calls_told q (stamped t (accepted_told n command)) ≡ []
   accepted_calls n None = refl
   accepted_calls n (Some c) = refl
@@ -62,7 +62,7 @@ module _ (q t : ℕ) where
   status_calls old new told (inr is) = ap (λ (es : List Event). calls_told q (stamped t es)) is.0
 
 module _ {L : Type 0} (connection : L → ℕ) (allows : L → LinkCall → LinkAnswer → L → Type 0) where
-  -- what is told of a link: a run of it where the port is this one, and else nothing
+  -- the events of a link: a run of it if the port is this one, and else none
   abbrev pub TellsLink : Bool → ℕ → List Stamp → L → L → Type 0
   TellsLink true q events first last = IsLinkRun connection allows q events first last
   TellsLink false q events first last = calls_told q events ≡ []

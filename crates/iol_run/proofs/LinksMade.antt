@@ -1,4 +1,4 @@
--- What the steps of a run tell of each port's link is a run of it.
+-- The events of each port, from the steps of a run, are a run of its link.
 use Rattle.std.proofs.Common.{◌≡◌, refl, ◌+◌, ◌-◌, ℕ, nat_eq, nat_le, Bool, true, false, List, [], ◌∷◌, ◌++◌, length, Some, Result, Ok, Err}
 use Rattle.std.proofs.Common.{slice_get, slice_set, ap, sym, ◌∙◌, subst, arith, append-nil, append_assoc}
 use Rattle.std.proofs.lemmas.Bool.{eqb-true}
@@ -28,7 +28,7 @@ use Rattle.iol_run.specs.declared.turn.Turned.{Turned}
 use Rattle.iol_run.specs.declared.step.Step.{Step}
 use Rattle.iol_run.specs.declared.step.Step.TheVariants.{Client, Port, Flush}
 
--- a client's command and a turn of the flusher tell of no link
+-- a client's command and a turn of the flusher have no events of a link
 module _ (q t : ℕ) where
   submit_calls : (command : CommandValue) (answer : Result ℕ SubmitFault) → calls_told q (stamped t (submit_told command answer)) ≡ []
   submit_calls command (Ok n) = refl
@@ -42,13 +42,13 @@ module _ (q t : ℕ) where
   flusher_calls = record { none = refl; acknowledged = λ n. refl; failed = refl }
 
 module _ {L : Type 0} (connection : L → ℕ) (allows : L → LinkCall → LinkAnswer → L → Type 0) where
-  -- the link of a place, and what is told of it
+  -- the link of a place, and its events
   pub record Links (links last : List L) (more : List Stamp) (place : ℕ) (before : L) : Type 0 where
     pub after : L
     pub there : slice_get last place ≡ Some after
     pub run : IsLinkRun connection allows (place + 1) more before after
 
-  -- what the ports have become, and what is told of their links
+  -- what the ports have become, and the events of their links
   pub record GoesOn (ports last : PortsView L) (more : List Stamp) : Type 0 where
     pub count : length last.links ≡ length ports.links
     pub places : HavePlaces last.machines
@@ -155,7 +155,7 @@ module _ {L : Type 0} (connection : L → ℕ) (allows : L → LinkCall → Link
         stays_on ports last (stamped t told) is.0 places (λ q.
         turn_says (λ (es : List Event). calls_told q (stamped t es)) (flusher_calls q t) disk old.committed old new told turned is.1)
 
-    -- all that a run has told since a moment
+    -- all events of a run since a moment
     record HasTold (old new : RunView D L) : Type 0 where
       more : List Stamp
       events : new.events ≡ old.events ++ more
@@ -182,7 +182,7 @@ module _ {L : Type 0} (connection : L → ℕ) (allows : L → LinkCall → Link
           on = goes_further old.ports mid.ports new.ports (stamped t made.3.0) rest.more one rest.on;
         }
 
-    -- of a schedule that was run from a fresh run on
+    -- for a schedule that was run from a fresh run
     pub all_link_runs : (steps : List Step) (waits : ℕ) (journal : JournalView D) (links : List L) (old new : RunView D L)
         → IsFresh disk journal links old
         → HasMade disk connection allows steps waits old new → AreLinkRuns connection allows links new.events new.ports.links

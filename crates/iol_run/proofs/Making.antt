@@ -1,4 +1,4 @@
--- Steps and tasks that were made one behind the other.
+-- Steps and tasks that were made one after the other.
 use Rattle.std.proofs.Common.{◌≡◌, refl, ◌≤◌, ◌+◌, ◌-◌, ◌^◌, min, ℕ, List, [], ◌∷◌, ◌++◌, replicate, take, ap, sym, ◌∙◌, subst, arith}
 use Rattle.std.proofs.Common.{append-nil, append_assoc}
 use Rattle.iol_disk.specs.Disk.{Disk}
@@ -52,7 +52,7 @@ module _ {D L : Type 0} (disk : D → Disk) (connection : L → ℕ) (allows : L
   begun_stays [] waits old new made = ap (λ (r : RunView D L). r.begun) made.1
   begun_stays (s ∷ more) waits old new made = begun_stays more made.1 made.2 new made.5 ∙ made.3.3
 
-  -- steps behind others
+  -- steps after others
   pub made_join : (front rest : List Step) (early late : ℕ) (old mid new : RunView D L) → HasMade disk connection allows front early old mid
       → HasMade disk connection allows rest late mid new → HasMade disk connection allows (front ++ rest) (early + late) old new
   made_join [] rest early late old mid new first behind =
@@ -117,7 +117,7 @@ module _ {D L : Type 0} (disk : D → Disk) (connection : L → ℕ) (allows : L
       (all_made (take run.done tasks) run.whole run.early old run.mid run.tasks_done)
       (end_made ended run.done tasks run.partly run.late run.mid new run.ends)))
 
-  -- one more task behind those that are done
+  -- one more task after those that are done
   pub done_more : (tasks : List Task) (task : Task) (made more : List Step) (waits waited : ℕ) (old mid new : RunView D L)
       → HasDoneAll disk connection allows tasks made waits old mid → HasTried disk connection allows Whole task more waited mid new
       → HasDoneAll disk connection allows (tasks ++ task ∷ []) (made ++ more) (waits + waited) old new

@@ -61,14 +61,14 @@ module _ {D : Type 0} (disk : D → Disk) (start : Start) (begun : ℕ) where
           × (marks_of begun start.number events ≡ mark (clock_after begun events) (acked start.number events) ∷ older)
       newest = marks-newest begun start.number [] events
 
-  -- nothing is told
+  -- nothing is reported
   silent_mark : (master : CoreOnDiskView D) (events : List Stamp) (told : List Event) → told ≡ [] → Marked master events
       → Marked master (events ++ stamped (clock_of disk master) told)
   silent_mark master events told none was =
       subst (λ (es : List Event). Marked master (events ++ stamped (clock_of disk master) es)) (sym none)
       (subst (λ (ss : List Stamp). Marked master ss) (sym (append-nil events)) was)
 
-  -- an event that acknowledges nothing is told
+  -- an event that acknowledges nothing is reported
   told_mark : (master : CoreOnDiskView D) (events : List Stamp) (told : List Event) (e : Event) → told ≡ e ∷ []
       → acked_by (acked start.number events) e ≡ acked start.number events → Marked master events
       → Marked master (events ++ stamped (clock_of disk master) told)
@@ -76,7 +76,7 @@ module _ {D : Type 0} (disk : D → Disk) (start : Start) (begun : ℕ) where
       subst (λ (es : List Event). Marked master (events ++ stamped (clock_of disk master) es)) (sym one)
       (quiet_mark master events e same was)
 
-  -- events that acknowledge nothing are told
+  -- events that acknowledge nothing are reported
   unacked_mark : (master : CoreOnDiskView D) (told : List Event) (events : List Stamp) → AcksNone told → Marked master events
       → Marked master (events ++ stamped (clock_of disk master) told)
   unacked_mark master [] events none was = silent_mark master events [] refl was
@@ -168,7 +168,7 @@ module _ {D : Type 0} (disk : D → Disk) (start : Start) (begun : ℕ) where
   submit_mark new command events told (Ok n) is was = told_mark new events told (Accepted n command) is refl was
   submit_mark new command events told (Err f) is was = told_mark new events told (Refused (refusal_of f)) is refl was
 
-  -- a step adds the moments of what it tells
+  -- a step adds the moments of its events
   pub step_mark : {L : Type 0} (number : L → ℕ) (steps : L → LinkCall → LinkAnswer → L → Type 0) (step : Step) (old new : CoreOnDiskView D)
       (ports last : PortsView L) (events : List Stamp) (told : List Event) (turned : Turned)
       → IsInStep start old.core old.flusher old.committed

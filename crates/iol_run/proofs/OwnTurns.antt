@@ -1,4 +1,4 @@
--- The turns of the batch with the flusher behind each disk call, and those of a checkpoint for which no batch waits.
+-- The turns of the batch with the flusher after each disk call, and those of a checkpoint for which no batch waits.
 use Rattle.std.proofs.Common.{◌≡◌, refl, ◌≤◌, inl, inr, ℕ, ◌+◌, ◌&&◌, nat_lt, Bool, true, false, if◌then◌else◌, length, None, Some}
 use Rattle.std.proofs.Common.{ap, ◌∙◌, subst, arith, rules}
 use Rattle.std.proofs.lemmas.Bool.Decides.{nat_tests}
@@ -22,7 +22,7 @@ use Rattle.iol_run.proofs.TurnsLeft.{IsNewest, if_some, own_turns}
 use Rattle.iol_run.specs.CoreOnDisk.{IsAtRest}
 use Rattle.iol_run.specs.Turns.{need_met}
 
--- turns of a checkpoint count where something waits
+-- turns of a checkpoint count if something waits
 pub some_count : (waits turns : ℕ) (some : Bool) → nat_lt 0 waits ≡ some → 1 ≤ waits → (if some then turns else 0) ≡ turns
 some_count waits turns true is le = refl
 some_count waits turns false is le = let none : waits ≡ 0 = grind (arith, nat_tests, is) in absurd (omega (arith, none, le))
@@ -59,7 +59,7 @@ module _ {D : Type 0} where
   takes_own waits (Publishing j written) there met = search rules
   takes_own waits (Failed d f) there met = search rules
 
-  -- behind a disk call of a batch its turns are its calls and the acknowledgement
+  -- after a disk call of a batch its turns are its calls and the acknowledgement
   abbrev IsCounted : ℕ → FlushStage D → Type 0
   IsCounted waits stage = own_turns waits stage None ≤ calls_needed stage + 1
 
@@ -97,7 +97,7 @@ module _ {D : Type 0} where
   advanced_own c (Publishing j written) has = absurd has
   advanced_own c (Failed d f) has = absurd has
 
-  -- where it is done or paused the journal has the layout that is written
+  -- if a checkpoint is done or paused, the journal has the layout that is written
   advanced_newest : (c : CheckpointingView D) (j : JournalView D) → HasAdvanced c (Resting j) → is_renewed j.standing.layout ≡ true
   advanced_newest c j (inl done) = ap is_renewed done.layout ∙ renewed-renewed c.standing.layout
   advanced_newest c j (inr (more, moved, may, has)) =

@@ -1,4 +1,4 @@
--- What the steps of a run tell of each port is a run of its machine.
+-- The events of each port, from the steps of a run, are a run of its machine.
 use Rattle.std.proofs.Common.{◌≡◌, ◌<◌, refl, ◌+◌, ℕ, nat_le, Bool, true, false, List, [], ◌∷◌, ◌++◌, length}
 use Rattle.std.proofs.Common.{ap, sym, ◌∙◌, subst, arith, append-nil, append_assoc}
 use Rattle.std.proofs.lemmas.Bool.Decides.{nat_tests}
@@ -39,7 +39,7 @@ steps_behind port (Flush ∷ made) step = steps_behind port made step
 beyond_step : (place port links : ℕ) → place < links → nat_le port links ≡ false → steps_of (place + 1) (Port port ∷ []) ≡ 0
 beyond_step place port links within beyond = grind (arith, nat_tests, within, beyond)
 
--- what the flusher tells is no port's own
+-- the flusher's events are no port's own
 flusher_own : (q t : ℕ) → PassesOver (λ (es : List Event). own q (stamped t es))
 flusher_own q t = record { none = refl; acknowledged = λ n. refl; failed = refl }
 
@@ -51,7 +51,7 @@ module _ {L : Type 0} (number : L → ℕ) (steps : L → LinkCall → LinkAnswe
   abbrev HaveRuns : List Step → List L → PortsView L → List Stamp → Type 0
   HaveRuns made links ports events = engine.HaveRuns number steps first start (counted made) links ports events
 
-  -- a step that no port makes, and that tells of none
+  -- a step that no port makes, and that has no events of a port
   others_step : (made : List Step) (step : Step) (links : List L) (ports last : PortsView L) (events more : List Stamp) → last ≡ ports
       → ((port : ℕ) → own port more ≡ []) → ((place : ℕ) → place < length links → steps_of (place + 1) (step ∷ []) ≡ 0)
       → HaveRuns made links ports events → HaveRuns (made ++ step ∷ []) links last (events ++ more)
@@ -123,7 +123,7 @@ module _ {L : Type 0} (number : L → ℕ) (steps : L → LinkCall → LinkAnswe
         (step_runs disk before t links old.master mid.master old.ports mid.ports old.events told
         (core_after first start old.events old.master.core stands) are step made.0 made.3.1)))
 
-    -- of a schedule that was run from a fresh run on
+    -- for a schedule that was run from a fresh run
     pub all_port_runs : (schedule : List Step) (waits : ℕ) (journal : JournalView D) (links : List L) (old new : RunView D L) → first
         ≡ journal.standing.number
         → start ≡ journal.standing.state → length links ≡ length start → IsFresh disk journal links old

@@ -37,7 +37,7 @@ use Rattle.iol_run.specs.Turns.{need_met, met_by, Acknowledges, Takes, HasCalled
 use Rattle.iol_run.specs.declared.turn.Turned.{Turned}
 use Rattle.iol_run.specs.declared.turn.Turned.TheVariants.{Made, Idle, Waited}
 
--- fewer turns of the batch with the flusher, and as many behind it
+-- fewer turns of the batch with the flusher, and the same number after it
 less_own : (own_old own_new old new : ℕ) → own_new + 1 ≤ own_old → new ≡ old → own_new + new ≤ own_old + old - 1
 less_own own_old own_new old new fewer same = omega (arith, fewer, same)
 
@@ -45,7 +45,7 @@ less_own own_old own_new old new fewer same = omega (arith, fewer, same)
 less_behind : (own old new : ℕ) → own + 1 + new ≤ old → own + new ≤ 0 + old - 1
 less_behind own old new fewer = omega (arith, fewer)
 
--- where no batch may be taken, none is in flight and the disk has not failed, nothing waits
+-- if no batch may be taken, none is in flight and the disk has not failed, nothing waits
 pub nothing_waits : (waits flies : ℕ) (failed : Bool) → (not (nat_eq waits 0) && nat_eq flies 0 && not failed) ≡ false → flies ≡ 0
     → (failed ≡ true → ⊥)
     → waits ≡ 0
@@ -54,7 +54,7 @@ nothing_waits (suc n) flies true none rests sound = absurd (sound refl)
 nothing_waits (suc n) zero false none rests sound = search rules
 nothing_waits (suc n) (suc flies) false none rests sound = absurd (omega (arith, rests))
 
--- where the need of a disk call is met beside a batch, no batch may be taken, or the layout is an older one
+-- if a turn that may take a batch makes a disk call, no batch may be taken, or the layout is an older one
 none_there : (newest other there : Bool) → need_met (if not newest || other then due_need newest else need.Batch) there ≡ need.Disk
     → (there ≡ false) ⊎ (newest ≡ false)
 none_there false other there met = inr refl
@@ -70,12 +70,12 @@ never_stopped true true false met = search rules
 never_stopped true false there met = search rules
 
 module _ {D : Type 0} where
-  -- fewer turns are left behind a disk call, or nothing waits
+  -- fewer turns are left after a disk call, or nothing waits
   abbrev IsLess : ℕ → FlushStage D → FlushStage D → Type 0
   IsLess waits old new =
       (own_turns waits new None + 1 ≤ own_turns waits old None) ⊎ ((waits ≡ 0) × (own_turns waits new None ≡ 0))
 
-  -- a flusher at rest makes a disk call where nothing waits, or where the layout is an older one
+  -- a flusher at rest makes a disk call if nothing waits, or if the layout is an older one
   abbrev MayAdvance : ℕ → FlushStage D → Type 0
   MayAdvance waits (Resting j) = (waits ≡ 0) ⊎ (is_renewed j.standing.layout ≡ false)
   MayAdvance waits stage = Unit {0}
@@ -234,7 +234,7 @@ module _ {D : Type 0} (layout : Layout) where
     called_less waits (Publishing j written) new may few_old few_new step = absurd step.0
     called_less waits (Failed d f) new may few_old few_new step = absurd step.0
 
-    -- a flusher at rest makes one where no batch may be taken: none waits, or the layout is an older one
+    -- a flusher at rest makes one if no batch may be taken: none waits, or the layout is an older one
     may_advance : (core : CoreView) (stage : FlushStage D) → need_met (need_of stage) (has_batch core) ≡ need.Disk → HasFlight core stage
         → (writes_no_more core.stopped ≡ true → ⊥) → MayAdvance (length core.queue) stage
     may_advance core (Resting j) met flight sound =
@@ -251,7 +251,7 @@ module _ {D : Type 0} (layout : Layout) where
     may_advance core (Publishing j written) met flight sound = tt
     may_advance core (Failed d f) met flight sound = tt
 
-    -- none is left where nothing waits
+    -- no turn is left if nothing waits
     less_left : (old new : CoreOnDiskView D) → old.committed ≡ None → new.committed ≡ None → new.core ≡ old.core
         → IsLess (length old.core.queue) old.flusher.stage new.flusher.stage → IsFewer old new
     less_left old new none after same (inl less) =
@@ -351,7 +351,7 @@ module _ {D : Type 0} (layout : Layout) where
         serves_fewer (met_by old) old new told turned refl there is
         (subst (λ (c : Option CommittedView). IsServed layout old.core old.flusher.stage c) there was) waits before after
 
--- commands that need a turn each at least are none where no turn is left
+-- if each command needs a turn at least and no turn is left, there are no commands
 no_turns : (each waits flies : ℕ) → 1 ≤ each → each * (waits - flies) ≡ 0 → flies ≡ 0 → waits ≡ 0
 no_turns each waits flies some none rests =
     omega (
@@ -362,7 +362,7 @@ no_turns each waits flies some none rests =
     )
 
 module _ {D : Type 0} (layout : Layout) where
-  -- where no turn is left, nothing waits
+  -- if no turn is left, nothing waits
   pub none_left : (core : CoreView) (stage : FlushStage D) (committed : Option CommittedView) → HasBatch core stage committed
       → (writes_no_more core.stopped ≡ true → ⊥) → turns_left layout core stage committed ≡ 0 → length core.queue ≡ 0
   none_left core stage (Some committed) batch sound none = absurd (omega (arith, none))

@@ -61,7 +61,7 @@ pub record IsServed {D : Type 0} (layout : Layout) (core : CoreView) (stage : Fl
 abbrev pub Served : {D : Type 0} → Layout → CoreOnDiskView D → Type 0
 Served layout master = IsServed layout master.core master.flusher.stage master.committed
 
--- where the need of a batch is met, the journal at rest has the layout that is written
+-- if a turn takes a batch, the journal at rest has the layout that is written
 met_newest : (newest other there : Bool) → need_met (if not newest || other then due_need newest else need.Batch) there ≡ need.Batch
     → newest ≡ true
 met_newest true other there met = refl
@@ -72,14 +72,14 @@ pub rests_newest : {D : Type 0} (j : JournalView D) (there : Bool) → need_met 
 rests_newest j there met =
     met_newest (is_renewed j.standing.layout) (is_some j.begun || nat_le j.standing.layout.slots (2 * j.standing.used)) there met
 
--- where a command is taken, the queue takes it
+-- if a command is taken, the queue takes it
 queue_causes : (stopped : Bool) (queue : Option SubmitFault) (checked : Option CommandFault)
     → (if stopped then Some fault.Stopped else first_cause checked queue) ≡ None → queue ≡ None
 queue_causes true queue checked none = search rules
 queue_causes false queue (Some f) none = search rules
 queue_causes false queue None none = none
 
--- behind a checkpoint the layout is the renewed one
+-- after a checkpoint the layout is the renewed one
 done_layout : (was now layout : Layout) → now ≡ renewed was → renewed was ≡ layout → (renewed now ≡ layout) × (is_renewed now ≡ true)
 done_layout was now layout done is = (ap renewed done ∙ (renewed-twice was ∙ is), ap is_renewed done ∙ renewed-renewed was)
 
@@ -103,7 +103,7 @@ module _ {D : Type 0} (layout : Layout) where
     few_wait = omega (arith, length-append core.queue (command ∷ []), room);
   }
 
-  -- other permits are out
+  -- a core with other permits
   permits_batch : (core : CoreView) (permits : List (Option Grant)) (stage : FlushStage D) (committed : Option CommittedView)
       → HasBatch core stage committed
       → HasBatch (with_permits core permits) stage committed
@@ -195,7 +195,7 @@ module _ {D : Type 0} (layout : Layout) where
   same_served : (old new : CoreOnDiskView D) → new ≡ old → Served layout old → Served layout new
   same_served old new same was = subst (λ (m : CoreOnDiskView D). Served layout m) (sym same) was
 
-  -- from where no batch is to be acknowledged to where none is
+  -- if no batch is to be acknowledged before and after
   none_served : (old new : CoreOnDiskView D) → old.committed ≡ None → new.committed ≡ None
       → (IsServed layout old.core old.flusher.stage None → IsServed layout new.core new.flusher.stage None) → Served layout old
       → Served layout new

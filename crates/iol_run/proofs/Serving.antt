@@ -1,4 +1,4 @@
--- A core stays in step with its flusher in each turn, and the run of its journal goes on.
+-- A core stays in step with its flusher in each turn, and the run of its journal continues.
 use Rattle.std.proofs.Common.{◌≡◌, refl, Bool, true, false, List, Option, Some, None, Ok, Err, sym, subst, rules}
 use Rattle.iol_types.specs.Command.{CommandValue}
 use Rattle.iol_types.specs.State.{after}
@@ -110,7 +110,7 @@ module _ {D : Type 0} (disk : D → Disk) (start : Start) where
     goes_on disk old.stage new.stage (Err (fault.Disk why)) step is.2,
   )
 
-  -- the run goes on with a disk call
+  -- the run continues with a disk call
   pub called_running : (core after : CoreView) (old new : FlusherView D) → new.published ≡ old.published → after.queue ≡ core.queue
       → KeepsRun disk old.stage new.stage
       → KeepsRunning disk start (record { core = core; flusher = old; committed = None })

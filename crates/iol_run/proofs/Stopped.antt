@@ -38,15 +38,15 @@ use Rattle.iol_run.specs.declared.turn.Turned.TheVariants.{Made, Idle, Waited}
 use Rattle.iol_run.specs.declared.step.Step.{Step}
 use Rattle.iol_run.specs.declared.step.Step.TheVariants.{Client, Port, Flush}
 
--- what a core tells of failures, from one to the next: it accepts only where it runs, a failure of the disk that it knew is
--- known still, and one that is told is known
+-- what a core reports of failures, from one to the next: it accepts only if it runs, a failure of the disk that it knew is
+-- known still, and one that is reported is known
 record Heeds (old new : CoreView) (told : List Stamp) : Type 0 where
   pub accepts : writes_no_more old.stopped ≡ true → accepted told ≡ []
   pub stays : writes_no_more old.stopped ≡ true → writes_no_more new.stopped ≡ true
   pub known : HasFailure told → writes_no_more new.stopped ≡ true
   pub none : NoneOnceFailed told
 
--- events that tell of no failure
+-- events that report no failure
 none_failed : (told : List Stamp) → (HasFailure told → ⊥) → NoneOnceFailed told
 none_failed [] sound = tt
 none_failed (e ∷ told) sound = ((λ failed. absurd (sound (inl failed))), none_failed told (λ failed. sound (inr failed)))
@@ -110,11 +110,11 @@ module _ (t : ℕ) where
       (one_heeds old (changed old (Waits command permits)) (Accepted _ command) refl (λ never. never) (λ failed.
       absurd (runs_still old room.0 failed)))
 
-  -- a status behind it
+  -- a status after it
   quiet_heeds : (core : CoreView) (told : List Event) → AreQuiet told → Heeds core core (stamped t told)
   quiet_heeds core told quiet = change_heeds core (Permits core.permits) told tt quiet
 
--- more behind what was told
+-- more after what was reported
 more_heeds : (old mid new : CoreView) (told more : List Stamp) → Heeds old mid told → Heeds mid new more → Heeds old new (told ++ more)
 more_heeds old mid new told more one two = record {
   accepts = λ failed. accepted-append told more
@@ -207,7 +207,7 @@ stays_heeding : (old new : CoreView) → new ≡ old → Heeds old new []
 stays_heeding old new same = silent_heeds 0 old new [] refl (ap (λ (c : CoreView). c.stopped) same)
 
 module _ {D L : Type 0} (disk : D → Disk) (connection : L → ℕ) (allows : L → LinkCall → LinkAnswer → L → Type 0) where
-  -- of steps that were made from a fresh run on
+  -- for steps that were made from a fresh run
   pub none_once_failed : (steps : List Step) (waits : ℕ) (journal : JournalView D) (links : List L) (old new : RunView D L)
       → IsFresh disk journal links old
       → HasMade disk connection allows steps waits old new → NoneOnceFailed new.events

@@ -1,4 +1,4 @@
--- What is told is what happened, and the moments of a run.
+-- The events say what happened, and the moments of a run.
 use Rattle.std.proofs.Common.{◌≡◌, refl, ◌+◌, ℕ, nat_le, Bool, true, false, List, [], ◌∷◌, ◌++◌, length, drop, Option, Some, None, Result}
 use Rattle.std.proofs.Common.{Ok, Err, ap, sym, ◌∙◌, subst, arith, append-nil, append_assoc, length-append}
 use Rattle.iol_types.specs.Command.{CommandValue, command_of}
@@ -71,7 +71,7 @@ module _ {D : Type 0} (start : Start) (t : ℕ) where
           ap (λ (n : ℕ). start.number + n) (was.count ∙ ap length was.accepted_is)
           ∙ count_is start old.core old.flusher old.committed step
 
-  -- an event that accepts and acknowledges nothing, where the master has the same commands and number
+  -- an event that accepts and acknowledges nothing, if the master has the same commands and number
   quiet_told : (old new : CoreOnDiskView D) (events : List Stamp) (more : List Stamp) → accepted more ≡ [] → numbers more ≡ []
       → acked (acked start.number events) more ≡ new.core.number → accepted_in new ≡ accepted_in old → IsTold start old events
       → IsTold start new (events ++ more)
@@ -89,7 +89,7 @@ module _ {D : Type 0} (start : Start) (t : ℕ) where
       numbers_same : numbers (events ++ more) ≡ numbers events
       numbers_same = numbers-append events more ∙ (ap (λ (ns : List ℕ). numbers events ++ ns) no_number ∙ append-nil (numbers events))
 
-  -- nothing is told
+  -- nothing is reported
   silent_told : (old new : CoreOnDiskView D) (events : List Stamp) → new.core.number ≡ old.core.number → accepted_in new ≡ accepted_in old
       → IsTold start old events → IsTold start new (events ++ [])
   silent_told old new events number same was = quiet_told old new events [] refl refl (was.acked_is ∙ sym number) same was
@@ -110,7 +110,7 @@ module _ {D : Type 0} (start : Start) (t : ℕ) where
       ∙ ap (λ (c : CoreView). old.flusher.published ++ waiting_of old.committed c) is.1))
       was
 
-  -- where the flusher and the published batch stay, and so does what waits
+  -- if the flusher, the published batch and what waits stay
   waiting_same : (old new : CoreOnDiskView D) → new.flusher ≡ old.flusher → new.committed ≡ old.committed
       → waiting_of old.committed new.core ≡ waiting_of old.committed old.core → accepted_in new ≡ accepted_in old
   waiting_same old new flusher committed waits =
@@ -170,7 +170,7 @@ module _ {D : Type 0} (start : Start) (t : ℕ) where
       ∙ ap (λ (c : Option CommittedView). old.flusher.published ++ waiting_of c old.core) (sym there)))))
       was)
 
-  -- where no batch is to be acknowledged, and the queue and the published list stay
+  -- if no batch is to be acknowledged, and the queue and the published list stay
   stays_told : (old new : CoreOnDiskView D) → old.committed ≡ None → new.committed ≡ None → new.flusher.published ≡ old.flusher.published
       → new.core.queue ≡ old.core.queue → accepted_in new ≡ accepted_in old
   stays_told old new before after published queue =
@@ -244,7 +244,7 @@ module _ {D : Type 0} (start : Start) (t : ℕ) where
   turn_told disk None old new events told turned there step is was =
       serves_told disk (met_by old) old new events told turned there step is was
 
-  -- what a step tells is what happened
+  -- the events of a step say what happened
   pub step_told : {L : Type 0} (disk : D → Disk) (number : L → ℕ) (steps : L → LinkCall → LinkAnswer → L → Type 0) (step : Step)
       (old new : CoreOnDiskView D) (ports last : PortsView L) (events : List Stamp) (told : List Event) (turned : Turned)
       → IsInStep start old.core old.flusher old.committed → Does disk number steps step old new ports last told turned

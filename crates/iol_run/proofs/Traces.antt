@@ -1,4 +1,4 @@
--- What the steps of a schedule tell, from the disk that was handed in to the trace.
+-- The events of the steps of a schedule, from the given disk to the trace.
 use Rattle.std.proofs.Common.{◌≡◌, refl, ◌*◌, ℕ, IsTrue, List, [], length, Result, Ok, Err, IfOk, ap, sym, ◌∙◌, subst}
 use Rattle.iol_disk.specs.Content.{clock, reads}
 use Rattle.iol_disk.specs.Disk.{Disk}
@@ -33,7 +33,7 @@ use Rattle.iol_run.specs.declared.step.Step.{Step}
 use Rattle.iol_run.specs.declared.task.Task.{Task}
 
 module _ {D L : Type 0} (disk : D → Disk) (number : L → ℕ) (steps : L → LinkCall → LinkAnswer → L → Type 0) where
-  -- what a run from a fresh one on tells
+  -- what a run from a fresh one reports
   pub tells_run : (journal : JournalView D) (links : List L) (tasks : List Task) (made : List Step) (trace : Trace D L)
       → length links ≡ length journal.standing.state → IsRunFrom disk number steps journal links tasks made trace
       → TellsRun disk number steps journal links made trace

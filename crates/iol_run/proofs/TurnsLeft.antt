@@ -45,11 +45,11 @@ IsNewest (Opening checkpoint) committed = Unit {0}
 IsNewest (Checkpointing checkpoint batch) committed = Unit {0}
 IsNewest (Failed disk fault) committed = Unit {0}
 
--- turns that count where some commands wait
+-- turns that count if some commands wait
 abbrev pub if_some : ℕ → ℕ → ℕ
 if_some waits turns = if nat_lt 0 waits then turns else 0
 
--- the turns of the batch that is with the flusher: its calls, and its acknowledgement. Where it has none but so many commands wait,
+-- the turns of the batch that is with the flusher: its calls, and its acknowledgement. If it has none but some commands wait,
 -- a checkpoint that cannot be paused makes its calls before one is taken
 abbrev pub own_turns : {D : Type 0} → ℕ → FlushStage D → Option CommittedView → ℕ
 own_turns waits stage (Some committed) = 1
@@ -61,7 +61,7 @@ own_turns waits (Writing writing) None = calls_needed (Writing writing) + 1
 own_turns waits (Publishing journal written) None = 2
 own_turns waits (Failed disk fault) None = 0
 
--- the turns of the commands behind it, each in a batch of its own
+-- the turns of the commands after the batch in flight, each in a batch of its own
 abbrev pub turns_behind : Layout → CoreView → ℕ
 turns_behind layout core = batch_turns layout * (length core.queue - core.flight)
 
@@ -89,7 +89,7 @@ add_within turns most more le = omega (arith, le)
 one_less : (turns most : ℕ) → turns + 1 ≤ most → turns ≤ most
 one_less turns most le = omega (arith, le)
 
--- the turns of a batch of so many commands are no more than those of as many batches
+-- the turns of a batch of `n` commands are no more than those of `n` batches
 within_each : (most n : ℕ) → 1 ≤ n → BODY_SECTORS * n + 8 + most ≤ (24 + most) * n
 within_each most n some =
     subst (λ (all : ℕ). BODY_SECTORS * n + 8 + most ≤ all) (sym (add-mul 24 most n)) (omega (arith, some, le-mul_of_pos_right most some))
@@ -121,7 +121,7 @@ written_within calls most n some le = omega (arith, le, within_each most n some)
 few_within : (turns most n : ℕ) → 1 ≤ n → turns ≤ 2 → turns ≤ (24 + most) * n
 few_within turns most n some le = omega (arith, le, within_each most n some)
 
--- the turns of a batch, and of the commands behind it
+-- the turns of a batch, and of the commands after it
 pub fewer_behind : (each waits flies own : ℕ) → own ≤ each * flies → flies ≤ waits → own + each * (waits - flies) ≤ each * waits
 fewer_behind each waits flies own most within =
     subst (λ (n : ℕ). own + each * (waits - flies) ≤ n) (sym parted) (add_within own (each * flies) (each * (waits - flies)) most)
@@ -151,7 +151,7 @@ module _ (layout : Layout) where
       less : (n m : ℕ) → n - m ≤ n
       less n m = omega arith
 
-  -- as many turns are left at most as each command that waits needs in a batch of its own, and those of a checkpoint
+  -- the turns that are left are at most those of each waiting command in a batch of its own, and those of a checkpoint
   abbrev pub IsWithin : CoreView → ℕ → Type 0
   IsWithin core own = own + turns_behind layout core ≤ batch_turns layout * length core.queue + (most_checkpoint_calls layout + 1)
 

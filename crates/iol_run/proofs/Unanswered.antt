@@ -1,4 +1,4 @@
--- Where a port or the flusher is told of, no client is answered.
+-- The events of a port or the flusher answer no client.
 use Rattle.std.proofs.Common.{◌≡◌, refl, inl, inr, ℕ, Bool, true, false, if◌then◌else◌, List, [], ◌∷◌, ◌++◌}
 use Rattle.std.proofs.Common.{Option, Some, None, Result, Ok, Err, ap, sym, ◌∙◌, append_assoc}
 use Rattle.iol_types.specs.DataSet.{SetValue}
@@ -35,7 +35,7 @@ answers-append (e ∷ one) two =
     ap (λ (es : List Event). (if is_answer e then e ∷ [] else []) ++ es) (answers-append one two)
     ∙ sym (append_assoc (if is_answer e then e ∷ [] else []) (answers_in one) (answers_in two))
 
--- where a port is told of, no client is answered
+-- the events of a port answer no client
 store_answers : (grant : UploadGrant) (set : SetValue) (answer : Result ℕ FinishFault)
     → answers_in (filed_told (Some (store_of grant set)) answer) ≡ []
 unfolding answers_in

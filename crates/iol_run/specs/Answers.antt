@@ -1,4 +1,4 @@
--- What a client is answered.
+-- The answers to clients.
 use Rattle.std.specs.Prelude.{◌≡◌, ◌+◌, ℕ, Bool, true, false, List, [], ◌∷◌, ◌++◌, Option, Some, None}
 use Rattle.iol_types.specs.Command.{CommandValue, Store, command_of}
 use Rattle.iol_types.specs.State.{State}
@@ -20,20 +20,20 @@ clients_of [] = []
 clients_of (Client change ∷ made) = command_of change ∷ clients_of made
 clients_of (step ∷ made) = clients_of made
 
--- an event answers a client: its command is accepted, or refused; a Store is no client's (own)
+-- an event answers a client: its command is accepted, or refused; a Store is no client's command (own)
 abbrev pub is_answer : Event → Bool
 is_answer (trace.Accepted number (Store port revision set)) = false
 is_answer (trace.Accepted number command) = true
 is_answer (trace.Refused refusal) = true
 is_answer event = false
 
--- a command is accepted under the next number, where the core does not refuse it; or it is refused, for the first cause (own)
+-- a command is accepted under the next number, if the core does not refuse it; or it is refused, for the first cause (own)
 abbrev pub IsAnswer : CoreView → CommandValue → Event → Option SubmitFault → Type 0
 IsAnswer core command told None = told ≡ trace.Accepted (live_number core + 1) command
 IsAnswer core command told (Some fault) = told ≡ trace.Refused (refusal_of fault)
 
--- an event answers a client's command as a core does that stands after the events before: with the live state after what was
--- accepted, so many that wait as were accepted and not acknowledged, and stopped exactly where a failure of the disk was told (own)
+-- an event answers a client's command as a core does after the events before: with the live state after what was accepted, with
+-- those waiting that were accepted and not acknowledged, and stopped exactly if a failure of the disk was reported (own)
 pub record Answers (first : ℕ) (start : State) (before : List Stamp) (command : CommandValue) (told : Event) : Type 0 where
   pub core : CoreView
   pub stands : IsCoreAfter first start before core
@@ -41,14 +41,14 @@ pub record Answers (first : ℕ) (start : State) (before : List Stamp) (command 
   pub failed : HasFailure before → core.stopped ≡ Some DiskFailed
   pub answer : IsAnswer core command told (submit_fault core command)
 
--- the next event answers the next command of a client, where it is an answer; what is behind it answers the others (own)
+-- the next event answers the next command of a client, if it is an answer; the events after it answer the others (own)
 abbrev pub AnswersNext : (List CommandValue → Type 0) → ℕ → State → List Stamp → List CommandValue → Event → Bool → Type 0
 AnswersNext Behind first start before commands told true =
     (command : CommandValue) × (rest : List CommandValue) × (commands ≡ command ∷ rest) × Answers first start before command told
     × Behind rest
 AnswersNext Behind first start before commands told false = Behind commands
 
--- behind what was told before, events answer these commands of clients, each one once and in their order (own)
+-- after the events before, these events answer these commands of clients, each one once and in their order (own)
 abbrev pub AnswersClients : ℕ → State → List Stamp → List CommandValue → List Stamp → Type 0
 AnswersClients first start before commands [] = commands ≡ []
 AnswersClients first start before commands (e ∷ events) =

@@ -1,4 +1,4 @@
--- A core, and the flusher that brings its batches to the disk.
+-- A core, and the flusher that writes its batches to the disk.
 use Rattle.std.specs.Prelude.{◌≡◌, ◌≤◌, ℕ, ◌+◌, true, List, ◌++◌, length, drop, Option, Some, None}
 use Rattle.iol_types.specs.Command.{CommandValue}
 use Rattle.iol_types.specs.State.{after}
@@ -21,19 +21,19 @@ pub record CoreOnDiskView (D : Type 0) : Type 0 where
   pub flusher : FlusherView D
   pub committed : Option CommittedView
 
--- commands of the queue are the batch in flight: the first that wait, one at least (own)
+-- these commands are the batch in flight: the first of the queue, at least one (own)
 pub record IsInFlight (core : CoreView) (commands : List CommandValue) : Type 0 where
   pub behind : List CommandValue
   pub queue : core.queue ≡ commands ++ behind
   pub flight : core.flight ≡ length commands
   pub some : 1 ≤ length commands
 
--- the durable state and number are those behind a list (own)
+-- the durable state and number are those after this list of commands (own)
 pub record IsDurable (start : Start) (core : CoreView) (list : List CommandValue) : Type 0 where
   pub number : core.number ≡ start.number + length list
   pub state : core.durable ≡ after start.state list
 
--- what is in flight is with the flusher: its batch, or nothing where it has none. Once a disk call has failed, the core knows it
+-- what is in flight is with the flusher: its batch, or nothing if it has none. Once a disk call has failed, the core knows it
 -- (own)
 abbrev pub HasFlight : {D : Type 0} → CoreView → FlushStage D → Type 0
 HasFlight core (Resting journal) = core.flight ≡ 0
@@ -49,32 +49,32 @@ abbrev pub IsAtRest : {D : Type 0} → FlushStage D → Type 0
 IsAtRest (Resting journal) = Unit {0}
 IsAtRest stage = ⊥
 
--- all that is published is acknowledged, and what is in flight is with the flusher, and goes on where the journal stands; or
--- the last batch that is published is still in flight, and the flusher rests (own)
+-- all that is published is acknowledged, and what is in flight is with the flusher, and continues where the journal ends; or
+-- the last published batch is still in flight, and the flusher rests (own)
 abbrev pub IsInStep : {D : Type 0} → Start → CoreView → FlusherView D → Option CommittedView → Type 0
 IsInStep start core flusher None = IsDurable start core flusher.published × HasFlight core flusher.stage × GoesOn flusher.stage
 IsInStep start core flusher (Some committed) =
     IsDurable start core committed.before × (flusher.published ≡ committed.before ++ committed.commands)
     × IsInFlight core committed.commands × IsAtRest flusher.stage
 
--- what waits behind the published list (own)
+-- the commands that wait after the published list (own)
 abbrev pub waiting_of : Option CommittedView → CoreView → List CommandValue
 waiting_of None core = core.queue
 waiting_of (Some committed) core = drop (length committed.commands) core.queue
 
--- all commands that were accepted from the start on, in their order (own)
+-- all commands that were accepted since the start, in their order (own)
 abbrev pub accepted_in : {D : Type 0} → CoreOnDiskView D → List CommandValue
 accepted_in master = master.flusher.published ++ waiting_of master.committed master.core
 
--- the clock of its disk (own)
+-- the clock of a master's disk (own)
 abbrev pub clock_of : {D : Type 0} → (D → Disk) → CoreOnDiskView D → ℕ
 clock_of disk master = clock (disk (disk_of master.flusher.stage)).content
 
--- a run of its journal, with what was acknowledged at these moments (own)
+-- a master's journal has a run, with what was acknowledged at these moments (own)
 abbrev pub IsRunning : {D : Type 0} → (D → Disk) → Start → List Mark → CoreOnDiskView D → Type 0
 IsRunning disk start marks master =
     IsFlushing disk start.number start.state master.flusher.published (waiting_of master.committed master.core) marks master.flusher.stage
 
--- whatever run its journal has, it has it still (own)
+-- every run that the master's journal had, it still has (own)
 pub record KeepsRunning {D : Type 0} (disk : D → Disk) (start : Start) (old new : CoreOnDiskView D) : Type 0 where
   pub goes_on : (marks : List Mark) → IsRunning disk start marks old → IsRunning disk start marks new

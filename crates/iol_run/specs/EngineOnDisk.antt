@@ -1,4 +1,4 @@
--- An engine, and the flusher that brings its batches to the disk.
+-- An engine, and the flusher that writes its batches to the disk.
 use Rattle.std.specs.Prelude.{ℕ, List}
 use Rattle.iol_port.specs.Stage.{PortValue}
 use Rattle.iol_engine.specs.Ports.{PortsView}
@@ -11,6 +11,6 @@ pub record EngineOnDiskView (D : Type 0) : Type 0 where
   pub machines : List PortValue
   pub connections : List ℕ
 
--- its ports with their links (own)
+-- an engine's ports with their links (own)
 abbrev pub ports_with : {D L : Type 0} → EngineOnDiskView D → List L → PortsView L
 ports_with made links = record { machines = made.machines; links = links }

@@ -1,4 +1,4 @@
--- What turns enough of the flusher leave, and what a drain does.
+-- What enough turns of the flusher leave, and what a drain does.
 use Rattle.std.specs.Prelude.{◌≡◌, ◌≤◌, ℕ, ◌+◌, ◌*◌, List, [], ◌∷◌, ◌++◌, length, replicate}
 use Rattle.iol_core.specs.declared.core_value.TheConstants.{QUEUE_COMMANDS}
 use Rattle.iol_flush.specs.Stages.{most_checkpoint_calls}
@@ -13,29 +13,29 @@ use Rattle.iol_run.specs.declared.step.Step.TheVariants.{Flush}
 use Rattle.iol_run.specs.declared.task.Task.{Task}
 use Rattle.iol_run.specs.declared.task.Task.TheVariants.{Drain}
 
--- steps end in this many turns of the flusher, or in more (own)
+-- the steps end in at least this number of turns of the flusher (own)
 pub record EndsInTurns (steps : List Step) (least : ℕ) : Type 0 where
   pub before : List Step
   pub turns : ℕ
   pub order : steps ≡ before ++ replicate turns Flush
   pub enough : least ≤ turns
 
--- where the steps that were made end in turns enough of the flusher, none had to wait and no failure was told, the number
--- acknowledged last is that of the last command accepted: the starting number, and one more for each (own)
+-- if the steps end in enough turns of the flusher, none had to wait and no failure was reported, the number that was acknowledged
+-- last is that of the last accepted command: the starting number, and one more for each (own)
 abbrev pub AllFlushed : ℕ → List Step → ℕ → ℕ → List Stamp → Type 0
 AllFlushed least made first waits events =
     EndsInTurns made least → waits ≡ 0 → (HasFailure events → ⊥) → acked first events ≡ first + length (accepted events)
 
--- where a schedule ends in a drain, all of its tasks were done and no failure was told, the number acknowledged last is that of
--- the last command accepted (own)
+-- if a schedule ends in a drain, all of its tasks were done and no failure was reported, the number that was acknowledged last is
+-- that of the last accepted command (own)
 abbrev pub AllDrained : List Task → Ended → ℕ → List Stamp → Type 0
 AllDrained tasks ended first events =
     (before : List Task) → tasks ≡ before ++ Drain ∷ [] → ended ≡ Whole → (HasFailure events → ⊥)
     → acked first events ≡ first + length (accepted events)
 
--- the most turns that a batch needs for each of its commands: it is taken, too few slots are free, a checkpoint and another one,
--- where the first was paused, and its disk calls are made, 16 for each command and three more, it is published and acknowledged
--- (own)
+-- the most turns that a batch needs for each of its commands. It is taken, too few slots are free, and a checkpoint is made, and
+-- another one if the first was paused. Then its disk calls are made, 16 for each command and three more, and it is published and
+-- acknowledged (own)
 abbrev pub batch_turns : Layout → ℕ
 batch_turns layout = 24 + most_freeing_calls layout
 

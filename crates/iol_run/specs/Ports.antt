@@ -8,7 +8,7 @@ use Rattle.iol_engine.specs.Ports.{PortsView}
 use Rattle.iol_run.specs.CoreOnDisk.{CoreOnDiskView}
 
 module _ {D L : Type 0} (number : L → ℕ) (steps : L → LinkCall → LinkAnswer → L → Type 0) where
-  -- a port makes its step; the other ports, and what the flusher has, stay (own)
+  -- a port makes its step; the other ports and the flusher stay as they are (own)
   pub record StepsThere (port : ℕ) (old new : CoreOnDiskView D) (ports last : PortsView L) (told : List Event) : Type 0 where
     pub before : PortValue
     pub after : PortValue
@@ -26,7 +26,7 @@ module _ {D L : Type 0} (number : L → ℕ) (steps : L → LinkCall → LinkAns
     pub flusher : new.flusher ≡ old.flusher
     pub committed : new.committed ≡ old.committed
 
-  -- a port that the master has makes its step; of another nothing is told, and nothing changes (own)
+  -- a port that the master has makes its step; for another, nothing is reported and nothing changes (own)
   abbrev pub StepsIf : Bool → ℕ → CoreOnDiskView D → CoreOnDiskView D → PortsView L → PortsView L → List Event → Type 0
   StepsIf true port old new ports last told = StepsThere port old new ports last told
   StepsIf false port old new ports last told = (new ≡ old) × (last ≡ ports) × (told ≡ [])

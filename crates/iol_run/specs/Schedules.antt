@@ -30,8 +30,8 @@ use Rattle.iol_run.specs.declared.schedule.Trace.{Trace}
 use Rattle.iol_run.specs.declared.step.Step.{Step}
 use Rattle.iol_run.specs.declared.task.Task.{Task}
 
--- a run before its first step: the journal rests as it was recovered, nothing waits, no permit is out, nothing is stopped, each
--- link has a new machine, and nothing is told (own)
+-- a run before its first step: the journal rests as it was recovered, nothing waits, no permit is given, nothing is stopped, each
+-- link has a new machine, and there are no events (own)
 pub record IsFresh {D L : Type 0} (disk : D → Disk) (journal : JournalView D) (links : List L) (run : RunView D L) : Type 0 where
   pub stage : run.master.flusher.stage ≡ Resting journal
   pub published : run.master.flusher.published ≡ []
@@ -47,13 +47,13 @@ pub record IsFresh {D L : Type 0} (disk : D → Disk) (journal : JournalView D) 
   pub begun : run.begun ≡ clock_of disk run.master
 
 module _ {L : Type 0} (number : L → ℕ) (steps : L → LinkCall → LinkAnswer → L → Type 0) where
-  -- what is told of each port's link is a run of it, from the link that was handed in to the one that is handed out (own)
+  -- the events of each port are a run of its link, from the link at the start to the link at the end (own)
   pub record AreLinkRuns (links : List L) (events : List Stamp) (last : List L) : Type 0 where
     pub count : length last ≡ length links
     pub runs : (place : ℕ) (before after : L) → slice_get links place ≡ Some before → slice_get last place ≡ Some after
         → IsLinkRun number steps (place + 1) events before after
 
--- a journal was recovered from a disk: it stands as an honest disk shows, its list of commands is empty, and its disk is what a sync
+-- a journal was recovered from a disk: it is as an honest disk shows, its list of commands is empty, and its disk is what a sync
 -- leaves of that one (own)
 pub record IsRecovered {D : Type 0} (disk : D → Disk) (given : D) (journal : JournalView D) : Type 0 where
   pub found : Shows (disk given) (λ image. standing_in (disk given).sectors image ≡ Ok journal.standing)
@@ -65,8 +65,8 @@ abbrev pub told_in : {D L : Type 0} → Trace D L → List Stamp
 told_in trace = map stamp_of trace.events.items
 
 module _ {D L : Type 0} (disk : D → Disk) (number : L → ℕ) (steps : L → LinkCall → LinkAnswer → L → Type 0) where
-  -- a trace is that of a schedule, run from a fresh run over a journal and these links on: its first tasks, all of them unless
-  -- memory ran out, made these steps. The trace tells what they told, and has the state, the links and the disk that they left (own)
+  -- a trace is that of a schedule, from a fresh run over a journal and these links: its first tasks, all of them unless memory
+  -- ran out, made these steps. The trace has their events, and the state, the links and the disk that they left (own)
   pub record IsRunFrom (journal : JournalView D) (links : List L) (tasks : List Task) (made : List Step) (trace : Trace D L) : Type 0 where
     pub old : RunView D L
     pub new : RunView D L
@@ -80,9 +80,9 @@ module _ {D L : Type 0} (disk : D → Disk) (number : L → ℕ) (steps : L → 
     pub links_are : trace.links.items ≡ new.ports.links
     pub disk_is : trace.disk ≡ disk_of new.master.flusher.stage
 
-  -- what a run over a journal tells. What is told of links and ports is what these did, each client was answered as what was told
-  -- before says, and what was acknowledged does not fall; the state is that after what was acknowledged. Once a failure of the disk
-  -- is told nothing is accepted; the clocks of an honest disk do not fall (own)
+  -- what a run over a journal reports. The events of links and ports are what these did, each client was answered as the events
+  -- before say, and acknowledged numbers do not fall; the state is that after the acknowledged commands. Once a failure of the disk
+  -- is reported nothing is accepted; the clocks of an honest disk do not fall (own)
   pub record TellsRun (journal : JournalView D) (links : List L) (made : List Step) (trace : Trace D L) : Type 0 where
     pub state : trace.state ≡ durable journal.standing.number journal.standing.state (told_in trace)
     pub clients : AnswersClients journal.standing.number journal.standing.state [] (clients_of made) (told_in trace)
@@ -93,15 +93,15 @@ module _ {D L : Type 0} (disk : D → Disk) (number : L → ℕ) (steps : L → 
     pub clocks : IsTrue (disk trace.disk).honest → ClocksRise trace.begun (clock (disk trace.disk).content) (told_in trace)
     pub flushed : AllFlushed (queue_turns (renewed journal.standing.layout)) made journal.standing.number trace.waits (told_in trace)
 
-  -- steps were made so, and the trace tells so (own)
+  -- a schedule made some steps, and the trace reports them (own)
   abbrev pub RunsAndTells : JournalView D → List L → List Task → Trace D L → Type 0
   RunsAndTells journal links tasks trace =
       (made : List Step) × IsRunFrom journal links tasks made trace × TellsRun journal links made trace
 
   -- a trace is that of a schedule over a disk, with these links: a journal was recovered from the disk, and the schedule run over it.
-  -- A failure of the disk is told exactly where the disk that was handed in has counted one since, the greatest number that it can
-  -- show apart. Where the schedule ends in a drain, or its steps in 128 turns of the flusher for each sector of the geometry that an
-  -- honest disk shows, all that was accepted is acknowledged (own)
+  -- A failure of the disk is reported exactly if the given disk has counted one since, unless its counter was at its greatest
+  -- number. If the schedule ends in a drain, or its steps in 128 turns of the flusher for each sector of the geometry that an honest
+  -- disk shows, all that was accepted is acknowledged (own)
   pub record IsTraceOf (given : D) (links : List L) (tasks : List Task) (trace : Trace D L) : Type 0 where
     pub journal : JournalView D
     pub made : List Step
@@ -113,7 +113,7 @@ module _ {D L : Type 0} (disk : D → Disk) (number : L → ℕ) (steps : L → 
     pub flushed : IsTrue (disk given).honest
         → AllFlushed (128 * total journal.standing.layout) made journal.standing.number trace.waits (told_in trace)
 
--- the disk that is handed back where no schedule is run (own)
+-- the disk that is returned if a schedule was not run (own)
 abbrev pub fault_disk : {D : Type 0} → RunFault D → D
 fault_disk (fault.Recover why) = why.disk
 fault_disk (fault.Ports disk) = disk

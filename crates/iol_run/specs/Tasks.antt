@@ -12,7 +12,7 @@ use Rattle.iol_run.specs.declared.step.Step.TheVariants.{Client, Port, Flush}
 use Rattle.iol_run.specs.declared.task.Task.{Task}
 use Rattle.iol_run.specs.declared.task.Task.TheVariants as task
 
--- so many had to wait, of which a count tells as many as it can show (own)
+-- a count is this number of waits, or 2^64 - 1 if there were more (own)
 abbrev pub IsCountOf : ℕ → ℕ → Type 0
 IsCountOf count waits = count ≡ min waits (2 ^ 64 - 1)
 
@@ -22,13 +22,13 @@ once (Client change) = task.Client change
 once (Port port) = task.Port port 1
 once Flush = task.Flush 1
 
--- a turn of the flusher that met want of memory counts as a wait (own)
+-- a turn of the flusher that was out of memory counts as a wait (own)
 abbrev pub waits_of : Turned → ℕ
 waits_of Waited = 1
 waits_of turned = 0
 
 module _ {D L : Type 0} (disk : D → Disk) (number : L → ℕ) (steps : L → LinkCall → LinkAnswer → L → Type 0) where
-  -- these steps were made one after another, and so many of them had to wait (own)
+  -- these steps were made one after another, and `waits` of them had to wait (own)
   abbrev pub HasMade : List Step → ℕ → RunView D L → RunView D L → Type 0
   HasMade [] waits old new = (waits ≡ 0) × (new ≡ old)
   HasMade (step ∷ made) waits old new =
@@ -43,19 +43,19 @@ module _ {D L : Type 0} (disk : D → Disk) (number : L → ℕ) (steps : L → 
     pub run : HasMade (replicate turns Flush) 0 old last
     pub idle : Did disk number steps Flush Idle last new
 
-  -- a step was made so many times, after which memory may have run out (own)
+  -- a step was made some number of times, after which memory may have run out (own)
   pub record HasBegun (step : Step) (made : List Step) (waits : ℕ) (old new : RunView D L) : Type 0 where
     pub times : ℕ
     pub made_is : made ≡ replicate times step
     pub run : HasMade made waits old new
 
-  -- one step was made so many times, or fewer where memory ran out (own)
+  -- one step was made `times` times, or fewer if memory ran out (own)
   abbrev pub HasRepeated : Ended → Step → ℕ → List Step → ℕ → RunView D L → RunView D L → Type 0
   HasRepeated Whole step times made waits old new = (made ≡ replicate times step) × HasMade made waits old new
   HasRepeated Memory step times made waits old new = (begun : HasBegun step made waits old new) × (begun.times < times)
 
-  -- a task was done: its step was made so many times, or the flusher has drained the queue. Where memory ran out in it, its step was
-  -- made fewer times, or some turns of the flusher (own)
+  -- a task was done: its step was made the given number of times, or the flusher has drained the queue. If memory ran out in it, its
+  -- step was made fewer times, or the flusher made some turns (own)
   abbrev pub HasTried : Ended → Task → List Step → ℕ → RunView D L → RunView D L → Type 0
   HasTried ended (task.Client change) made waits old new = HasRepeated ended (Client change) 1 made waits old new
   HasTried ended (task.Port port times) made waits old new = HasRepeated ended (Port port) times made waits old new
@@ -71,13 +71,13 @@ module _ {D L : Type 0} (disk : D → Disk) (number : L → ℕ) (steps : L → 
       × HasDoneAll tasks rest late mid new
       × (made ≡ first ++ rest) × (waits ≡ early + late)
 
-  -- after so many tasks a schedule ended: there were no more, or memory ran out in the next (own)
+  -- a schedule ended after `done` tasks: there were no more, or memory ran out in the next (own)
   abbrev pub EndsAfter : Ended → ℕ → List Task → List Step → ℕ → RunView D L → RunView D L → Type 0
   EndsAfter Whole done tasks made waits old new = (done ≡ length tasks) × (made ≡ []) × (waits ≡ 0) × (new ≡ old)
   EndsAfter Memory done tasks made waits old new =
       (task : Task) × (slice_get tasks done ≡ Some task) × HasTried Memory task made waits old new
 
-  -- a schedule was run: its first tasks, all of them unless memory ran out, in their order; these are the steps made (own)
+  -- a schedule was run: its first tasks, all of them unless memory ran out, in their order; these steps were made (own)
   pub record HasRun (tasks : List Task) (ended : Ended) (made : List Step) (waits : ℕ) (old new : RunView D L) : Type 0 where
     pub done : ℕ
     pub whole : List Step
@@ -90,7 +90,7 @@ module _ {D L : Type 0} (disk : D → Disk) (number : L → ℕ) (steps : L → 
     pub made_is : made ≡ whole ++ partly
     pub waits_is : waits ≡ early + late
 
-  -- with some steps one was repeated or a task tried, or with some waits too, as a count tells, a schedule was run (own)
+  -- some steps repeat one step, or try a task, or, with waits as counted, run a schedule (own)
   abbrev pub Repeats : Ended → Step → ℕ → ℕ → RunView D L → RunView D L → Type 0
   Repeats ended step times waits old new = (made : List Step) × HasRepeated ended step times made waits old new
 

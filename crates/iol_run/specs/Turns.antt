@@ -24,7 +24,7 @@ Acknowledges old new told =
     (new.core ≡ acknowledged old.core new.core.seen) × (new.flusher ≡ old.flusher) × (new.committed ≡ None)
     × (told ≡ Acknowledged new.core.number ∷ [])
 
--- a batch of the core that fits is taken and given to the flusher; none is there, or memory runs out, and nothing changes
+-- a batch of the core that fits is taken and given to the flusher; or there is none, or memory runs out, and nothing changes
 -- (own)
 abbrev pub Takes : {D : Type 0} → CoreOnDiskView D → CoreOnDiskView D → List Event → Turned → Type 0
 Takes old new told Made =
@@ -37,7 +37,7 @@ Takes old new told Waited = (has_batch old.core ≡ true) × (new ≡ old) × (t
 abbrev pub failed_core : CoreView → CoreView
 failed_core core = record core { stopped = Some (stopped_by core.stopped cause.DiskFailed) }
 
--- a disk call is made, and what is then on its way has few; or it fails, which is told (own)
+-- a disk call is made, after which few calls are left for what the flusher is doing; or it fails, which is reported (own)
 abbrev pub HasCalled : {D : Type 0} → (D → Disk) → CoreOnDiskView D → CoreOnDiskView D → List Event → Type 0
 HasCalled disk old new [] =
     (new.core ≡ old.core) × IsDiskStep disk old.flusher.stage new.flusher.stage (Ok tt) × HasFewCalls new.flusher.stage
@@ -45,7 +45,7 @@ HasCalled disk old new told =
     (failed : DiskFault) × (told ≡ DiskFailed ∷ []) × (new.core ≡ failed_core old.core)
     × IsDiskStep disk old.flusher.stage new.flusher.stage (Err (fault.Disk failed))
 
--- the next disk call is made; or it fails, which is told, and the core knows it; or memory runs out where a batch or a
+-- the next disk call is made; or it fails, which is reported, and the core knows it; or memory runs out as a batch or a
 -- checkpoint is begun, and nothing changes (own)
 abbrev pub CallsDisk : {D : Type 0} → (D → Disk) → CoreOnDiskView D → CoreOnDiskView D → List Event → Turned → Type 0
 CallsDisk disk old new told Made =
@@ -53,13 +53,13 @@ CallsDisk disk old new told Made =
 CallsDisk disk old new told Idle = ⊥
 CallsDisk disk old new told Waited = MayWant old.flusher.stage × (new ≡ old) × (told ≡ [])
 
--- the batch that is durable is published, and is to be acknowledged (own)
+-- the durable batch is published, and is to be acknowledged (own)
 abbrev pub Publishes : {D : Type 0} → CoreOnDiskView D → CoreOnDiskView D → List Event → Type 0
 Publishes old new told =
     (committed : CommittedView) × HasPublished old.flusher.stage old.flusher.published new.flusher committed
     × (new.core ≡ old.core) × (new.committed ≡ Some committed) × (told ≡ [])
 
--- the need that a turn meets: of a batch or a disk call it is the batch where one may be taken, and else the disk call (own)
+-- the need that a turn meets: of a batch or a disk call it is the batch if one may be taken, or else the disk call (own)
 abbrev pub need_met : Need → Bool → Need
 need_met need.BatchOrDisk waits = if waits then need.Batch else need.Disk
 need_met other waits = other
@@ -67,8 +67,8 @@ need_met other waits = other
 abbrev pub met_by : {D : Type 0} → CoreOnDiskView D → Need
 met_by master = need_met (need_of master.flusher.stage) (has_batch master.core)
 
--- where no batch is to be acknowledged, the need that a turn meets is met: a batch is taken, a disk call made, a batch published;
--- after a failure nothing (own)
+-- if no batch is to be acknowledged, a turn meets this need: it takes a batch, makes a disk call or publishes a batch; after a
+-- failure it does nothing (own)
 abbrev pub Serves : {D : Type 0} → (D → Disk) → Need → CoreOnDiskView D → CoreOnDiskView D → List Event → Turned → Type 0
 Serves disk need.Batch old new told turned = Takes old new told turned
 Serves disk need.Disk old new told turned = CallsDisk disk old new told turned
@@ -76,7 +76,7 @@ Serves disk need.BatchOrDisk old new told turned = ⊥
 Serves disk need.Publish old new told turned = (turned ≡ Made) × Publishes old new told
 Serves disk need.Stopped old new told turned = (turned ≡ Idle) × (new ≡ old) × (told ≡ [])
 
--- a turn of the flusher: a published batch is acknowledged, and where there is none what the flusher needs is done (own)
+-- a turn of the flusher: a published batch is acknowledged, or, if there is none, what the flusher needs is done (own)
 abbrev pub IsTurn : {D : Type 0} → (D → Disk) → Option CommittedView → CoreOnDiskView D → CoreOnDiskView D → List Event → Turned → Type 0
 IsTurn disk (Some committed) old new told turned = (turned ≡ Made) × Acknowledges old new told
 IsTurn disk None old new told turned = Serves disk (met_by old) old new told turned

@@ -1,4 +1,4 @@
-//! An engine, and the flusher that brings its batches to the disk, on one thread.
+//! An engine, and the flusher that writes its batches to the disk, on one thread.
 
 ghost use Rattle.std.specs.Prelude.{◌≡◌, ◌≤◌, ◌-◌, ◌⊎◌, ◌++◌, true, [], None, Some, is_some, length, map, replicate, slice_get, slice_set};
 ghost use Rattle.std.specs.Prelude.{IfOk, IfErr, OnErr};
@@ -33,9 +33,9 @@ use std::marker::Model;
 pub struct EngineOnDisk<D: SectorDisk, F: Name> {
     engine: Engine<F>,
     flusher: Flusher<D, F>,
-    // published, and not yet acknowledged
+    // The batch that is published and not yet acknowledged.
     committed: Option<Committed<F>>,
-    // the disk calls of the flusher so far; contracts do not see them
+    // The number of disk calls of the flusher so far. Contracts do not see it.
     calls: usize,
 }
 
@@ -55,11 +55,11 @@ impl<D: SectorDisk, F: Name> Model for EngineOnDisk<D, F> {
 }
 
 impl<D: SectorDisk, F: Name> EngineOnDisk<D, F> {
-    /// The engine and the flusher of a journal that was just recovered, with its state, over a front of that number and state, and with a
+    /// Makes the engine and the flusher of a journal that was just recovered, from its state, a front of that number and state, and a
     /// link for each port.
     ///
     /// # Errors
-    /// Out of memory; the disk is handed back.
+    /// Out of memory. The disk is returned.
     pub fn new<L: DeviceLink>(
         alloc: Global,
         front: Front,
@@ -97,7 +97,7 @@ impl<D: SectorDisk, F: Name> EngineOnDisk<D, F> {
         }
     }
 
-    /// The disk and the durable state.
+    /// Ends the engine and the flusher, and returns the disk and the durable state.
     pub fn end(self) -> (D, MasterState)
         ensures disk { result.0 ≡ disk_of self.master.flusher.stage }
         ensures state { result.1 ≡ self.master.core.durable }
@@ -116,7 +116,7 @@ impl<D: SectorDisk, F: Name> EngineOnDisk<D, F> {
         (disk, engine.end())
     }
 
-    /// Takes a change that a client asks for, and tells the answer.
+    /// Takes a client's change, and returns the event that reports the answer.
     pub fn submit(&mut self, change: Change) -> Event
         ensures submits { Submits (command_of change) self.old.master self.new.master (told_of (Some result)) }
         ensures ports { (self.new.machines ≡ self.old.machines) × (self.new.connections ≡ self.old.connections) }
@@ -141,10 +141,10 @@ impl<D: SectorDisk, F: Name> EngineOnDisk<D, F> {
         ensures others { (self.new.master.flusher ≡ self.old.master.flusher) × (self.new.master.committed ≡ self.old.master.committed) }
         ensures run { KeepsRunning D.disk F.front.start self.old.master self.new.master }
     {
-        // There is a machine for each connection.
+        // The invariant says that there is a machine for each connection.
         self.engine.is_sound();
         let told = self.engine.step(port, link, room);
-        // The contract says that what waits is legal, so a Store that was just taken passes.
+        // The contract says that the waiting commands are legal, so also a Store that was just accepted.
         let _number = self.engine.live_number();
         told
     }
@@ -169,12 +169,12 @@ impl<D: SectorDisk, F: Name> EngineOnDisk<D, F> {
         ensures unchanged { OnErr result (self.new ≡ self.old) }
     {
         let told = self.engine.step_handed(port, handed, room)?;
-        // The contract says that what waits is legal, so a Store that was just taken passes.
+        // The contract says that the waiting commands are legal, so also a Store that was just accepted.
         let _number = self.engine.live_number();
         Ok(told)
     }
 
-    /// Takes no more commands since a disk call has failed that was taken for made. No turn may follow.
+    /// Stops taking commands after the failure of a disk call that had counted as made. No turn may follow.
     pub fn fail(&mut self)
         ensures core { self.new.master ≡ record self.old.master { core = failed_core self.old.master.core } }
         ensures ports { (self.new.machines ≡ self.old.machines) × (self.new.connections ≡ self.old.connections) }
@@ -183,7 +183,7 @@ impl<D: SectorDisk, F: Name> EngineOnDisk<D, F> {
         self.engine.fail();
     }
 
-    /// The engine.
+    /// Returns the engine.
     pub fn engine(&self) -> &Engine<F>
         ensures core { result.now.core ≡ self.now.master.core }
         ensures ports { (result.now.machines ≡ self.now.machines) × (result.now.connections ≡ self.now.connections) }
@@ -191,33 +191,33 @@ impl<D: SectorDisk, F: Name> EngineOnDisk<D, F> {
         &self.engine
     }
 
-    /// The disk as it is now.
+    /// Returns the disk in its current state.
     pub fn disk_ref(&self) -> &D
         ensures { result.now ≡ disk_of self.now.master.flusher.stage }
     {
         self.flusher.disk_ref()
     }
 
-    // How many disk calls its flusher has made, up to 2^64 - 1.
+    // The number of disk calls that the flusher has made, up to 2^64 - 1.
     pub(crate) fn calls(&self) -> usize {
         self.calls
     }
 
-    // The core is in step with its flusher: no code runs, but a caller's proof learns it.
+    // Does nothing. Its contract says that the core is in step with its flusher.
     pub(crate) fn is_in_step(&self)
         ensures { IsInStep F.front.start self.now.master.core self.now.master.flusher self.now.master.committed }
     {
         let _ = &self.engine;
     }
 
-    /// One turn of the flusher. A batch that is published is acknowledged; where there is none the flusher's next need is
-    /// met: a batch of the core is taken, one disk call made, or the batch that is durable published. While a checkpoint is due, a
-    /// batch goes before its next disk call.
+    /// Makes one turn of the flusher. It acknowledges the published batch, if there is one. Otherwise it does what the flusher
+    /// needs next: it takes a batch of the core, makes one disk call, or publishes the durable batch. While a checkpoint is due, a
+    /// batch comes before the checkpoint's next disk call.
     pub fn turn(&mut self) -> Turn
         ensures turn { IsTurn D.disk self.old.master.committed self.old.master self.new.master (told_of result.event) result.turned }
         ensures ports { (self.new.machines ≡ self.old.machines) × (self.new.connections ≡ self.old.connections) }
         ensures run { KeepsRunning D.disk F.front.start self.old.master self.new.master }
-        // While a checkpoint is due there is always something to do.
+        // While a checkpoint is due, a turn always does something.
         ensures idle { result.turned ≡ Turned.Idle
             → (need_of self.old.master.flusher.stage ≡ need.Batch) ⊎ (need_of self.old.master.flusher.stage ≡ need.Stopped) }
     {
@@ -233,7 +233,7 @@ impl<D: SectorDisk, F: Name> EngineOnDisk<D, F> {
         }
     }
 
-    // Acknowledges the batch that is published.
+    // Acknowledges the published batch.
     fn acknowledge(&mut self) -> Turn
         requires { is_some self.old.master.committed ≡ true }
         ensures turn { IsTurn D.disk self.old.master.committed self.old.master self.new.master (told_of result.event) result.turned }
@@ -269,7 +269,7 @@ impl<D: SectorDisk, F: Name> EngineOnDisk<D, F> {
         }
     }
 
-    // Takes a batch of the core, or where there is none makes the next disk call of the checkpoint that is due.
+    // Takes a batch of the core, or, if there is none, makes the next disk call of the checkpoint that is due.
     fn take_or_call(&mut self) -> Turn
         requires needs { (self.old.master.committed ≡ None) × (need_of self.old.master.flusher.stage ≡ need.BatchOrDisk) }
         requires stands { flush.IsInStep F.front.start self.old.master.flusher.stage self.old.master.flusher.published }
@@ -306,7 +306,7 @@ impl<D: SectorDisk, F: Name> EngineOnDisk<D, F> {
         }
     }
 
-    // Publishes the batch that is durable.
+    // Publishes the durable batch.
     fn publish(&mut self) -> Turn
         requires { (self.old.master.committed ≡ None) × (need_of self.old.master.flusher.stage ≡ need.Publish) }
         ensures turn { (result.turned ≡ Turned.Made) × Publishes self.old.master self.new.master (told_of result.event) }

@@ -1,4 +1,4 @@
-//! Moments of a disk, which contracts alone see.
+//! Moments of a disk, which only contracts see.
 
 ghost use Rattle.std.specs.Prelude.{◌≡◌, ◌∷◌, []};
 ghost use Rattle.iol_run.specs.CoreOnDisk.{clock_of};
@@ -15,7 +15,7 @@ impl<D: SectorDisk, F: Name> Names<EngineOnDisk<D, F>> for ClockOf {
     ghost numbers = { λ m. clock_of D.disk m.master ∷ [] };
 }
 
-/// A moment of a disk. It has no octets; a contract sees the disk's clock.
+/// A moment of a disk. It has no octets: only a contract sees the disk's clock.
 #[derive(Drop)]
 pub struct Moment {
     tag: Tag,
@@ -30,7 +30,7 @@ impl Model for Moment {
 }
 
 impl Moment {
-    // This moment of the disk.
+    // Returns the current moment of the master's disk.
     pub(crate) fn of<D: SectorDisk, F: Name>(master: &EngineOnDisk<D, F>) -> Moment
         ensures { result ≡ clock_of D.disk master.now.master }
     {

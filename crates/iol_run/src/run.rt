@@ -23,25 +23,25 @@ use iol_types::MasterState;
 use std::alloc::{AllocError, Global};
 use std::marker::Model;
 
-/// An event, and when it happened.
+/// An event, and the moment at which it happened.
 #[derive(Drop)]
 pub struct Stamped {
     pub event: Event,
     pub moment: Moment,
 }
 
-// A run keeps all that it tells.
+// A run keeps all of its events, so each of them must be small.
 const _: () = prove!(size_of::<Stamped>() <= 32);
 
 /// A run between its steps. A contract sees the record `RunView` of `specs/Runs.antt`.
 pub struct Run<D: SectorDisk, L: DeviceLink, F: Name> {
     master: EngineOnDisk<D, F>,
-    // the link of each port, port 1 first
+    // The link of each port, port 1 first.
     links: Vec<L>,
     events: Vec<Stamped>,
-    // for each disk call of the flusher, how many events were told before the step that made it; contracts do not see them
+    // For each disk call of the flusher, the number of events before the step that made it. Contracts do not see these numbers.
     calls: Vec<usize>,
-    // room for the next exchange, if there is any
+    // A buffer for the next exchange, if there is one.
     spare: Option<Box<Exchanged>>,
     begun: Moment,
 }
@@ -65,7 +65,7 @@ impl<D: SectorDisk, L: DeviceLink, F: Name> Model for Run<D, L, F> {
         × (r.master.connections ≡ map L.number r.links.items) };
 }
 
-// Writes down what happened, if anything did; there is room.
+// Adds an event with its moment, if there is an event. The list must have spare capacity.
 fn note<D: SectorDisk, F: Name>(
     events: &mut Vec<Stamped>,
     master: &EngineOnDisk<D, F>,
@@ -82,7 +82,7 @@ fn note<D: SectorDisk, F: Name>(
     }
 }
 
-// Writes down how many events were told before a step, if the step made a disk call; there is room.
+// Adds the number of events before a step, if the step made a disk call. The list must have spare capacity.
 fn note_call(calls: &mut Vec<usize>, is_made: bool, events: usize)
     requires { vec_len calls.old < vec_capacity calls.old }
 {
@@ -91,7 +91,7 @@ fn note_call(calls: &mut Vec<usize>, is_made: bool, events: usize)
     }
 }
 
-// The spare room for an exchange, or a new one where there is none.
+// Returns the spare buffer for an exchange, or allocates one if there is none.
 fn room_in(
     spare: &mut Option<Box<Exchanged>>,
     alloc: Global,
@@ -107,7 +107,7 @@ impl<D: SectorDisk, L: DeviceLink + Drop, F: Name> Run<D, L, F> {
     /// for each port.
     ///
     /// # Errors
-    /// Out of memory; the disk is handed back.
+    /// Out of memory. The disk is returned.
     pub fn begin(
         alloc: Global,
         front: Front,
@@ -137,14 +137,14 @@ impl<D: SectorDisk, L: DeviceLink + Drop, F: Name> Run<D, L, F> {
 }
 
 impl<D: SectorDisk, L: DeviceLink, F: Name> Run<D, L, F> {
-    /// Ends a run. Permits that are held are returned.
+    /// Ends a run, and returns its trace. Permits that the ports hold are returned to the core.
     pub fn end(self, ended: Ended, waits: u64) -> Trace<D, L>
         ensures told { (map stamp_of result.events.items ≡ self.events) × (result.begun ≡ self.begun) }
         ensures state { result.state ≡ self.master.core.durable }
         ensures links { result.links.items ≡ self.ports.links }
         ensures disk { result.disk ≡ disk_of self.master.flusher.stage }
         ensures counted { (result.ended ≡ ended) × (result.waits ≡ waits) }
-        // What was told is what happened.
+        // The events say what happened.
         ensures happened { IsTold F.front.start self.master self.events }
     {
         let Run {
@@ -168,14 +168,15 @@ impl<D: SectorDisk, L: DeviceLink, F: Name> Run<D, L, F> {
         }
     }
 
-    /// Makes a step. What it tells is stamped with the disk's clock after it.
+    /// Makes a step. Its events are stamped with the disk's clock after the step.
     ///
     /// # Errors
-    /// Out of memory for what the step may tell, or for its disk call: the step is not made, and nothing changes.
+    /// Out of memory for the events of the step, the record of its disk call, or the buffer of an exchange. The step is not made, and
+    /// nothing changes.
     pub fn step(&mut self, step: &Step) -> Result<Turned, AllocError>
         ensures did { IfOk result (λ turned. Did D.disk L.number L.steps step.now turned self.old self.new) }
         ensures same { OnErr result (self.new ≡ self.old) }
-        // What held of a stop holds again.
+        // The claim about power stops still holds.
         ensures kept { KeepsRun D.disk F.front.start self.old self.new }
     {
         self.events.reserve(2)?;

@@ -1,4 +1,4 @@
-//! A schedule run from a disk to a trace.
+//! The run of a schedule over a disk, and its trace.
 
 ghost use Rattle.std.specs.Prelude.{◌≡◌, ℕ, [], length, vec_len, Ok, IfOk, IfErr};
 ghost use Rattle.iol_types.specs.State.{State};
@@ -25,14 +25,14 @@ use iol_types::MasterState;
 use std::alloc::Global;
 use std::marker::Brand;
 
-/// Why no schedule is run.
+/// Why a schedule was not run.
 #[derive(Drop)]
 pub enum RunFault<D: SectorDisk> {
-    /// The disk is not recovered.
+    /// The disk was not recovered.
     Recover(RecoverFault<D>),
-    /// There is not one link for each port; the disk is handed back.
+    /// There is not one link for each port. The disk is returned.
     Ports(D),
-    /// Out of memory; the disk is handed back.
+    /// Out of memory. The disk is returned.
     Memory(D),
 }
 
@@ -41,20 +41,20 @@ pub enum RunFault<D: SectorDisk> {
 pub enum Ended {
     /// All tasks were done.
     Whole,
-    /// Memory ran out before a step, or in a turn of the flusher that was to drain the queue.
+    /// Out of memory before a step, or in a turn of the flusher that was to drain the queue.
     Memory,
 }
 
-/// What a schedule did.
+/// The trace of a schedule.
 #[derive(Drop)]
 pub struct Trace<D: SectorDisk, L> {
     pub events: Vec<Stamped>,
-    /// For each disk call of the flusher, in their order, how many events were told before the step that made it. So a call
-    /// comes before the events of its own step. No clause says which calls these are; cases of explained runs show it.
+    /// For each disk call of the flusher, in order, the number of events before the step that made it. So a call comes before
+    /// the events of its own step. No contract says which calls these are; cases of explained runs show it.
     pub calls: Vec<usize>,
-    /// When recovery had ended.
+    /// The moment at which recovery had ended.
     pub begun: Moment,
-    /// How many turns of the flusher met want of memory.
+    /// The number of turns of the flusher that were out of memory.
     pub waits: u64,
     pub ended: Ended,
     /// The durable state at the end.
@@ -67,24 +67,24 @@ pub struct Trace<D: SectorDisk, L> {
 /// Recovers a disk, and runs a schedule over it, with a link for each port of its state, port 1 first.
 ///
 /// # Errors
-/// `Recover` where the disk is not recovered, `Ports` where there is not one link for each port, and `Memory`, in this
-/// order. The links are gone then.
+/// `Recover` if the disk is not recovered, `Ports` if there is not one link for each port, and `Memory` if out of memory, in
+/// this order. The links are dropped then.
 pub fn run_schedule<D: SectorDisk, L: DeviceLink + Drop>(
     alloc: Global,
     disk: D,
     links: Vec<L>,
     schedule: &[Task],
 ) -> Result<Trace<D, L>, RunFault<D>>
-    // On a disk that is kept: a stop after any count of events leaves the state after a prefix of the accepted commands, with
-    // all that were acknowledged.
+    // If the disk's image was kept, a power stop after any number of events leaves the state after a prefix of the accepted
+    // commands, which holds every acknowledged one.
     ensures crash_prefix { IfOk result (λ trace. Shows (D.disk disk) (λ image. IsKept (D.disk disk).sectors image
         → (first : ℕ) (start : State) → meaning (D.disk disk).sectors image ≡ Ok (record { number = first; state = start })
         → CrashPrefix (D.disk trace.disk) trace.begun first start (told_in trace))) }
-    // The tasks are the given ones up to the end, and each step did what its own clause says, over what recovery found.
+    // The tasks up to the end were carried out over what recovery found, and each step did what its own contract says.
     ensures run { IfOk result (IsTraceOf D.disk L.number L.steps disk links.items schedule.now) }
-    // Where no run began, the first thing that was wrong is said.
+    // If no run began, the fault names the first thing that was wrong.
     ensures cause { IfErr result (λ fault. FailsFor D.disk disk (vec_len links) fault) }
-    // A stop then leaves what it might have left before.
+    // A power stop then leaves only what it could have left before.
     ensures fault { IfErr result (λ fault. LeavesOnly (D.disk disk) (D.disk (fault_disk fault)) (IsImage (D.disk disk).content)) }
 {
     match Journal::recover(alloc, disk) {

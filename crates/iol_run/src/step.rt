@@ -26,13 +26,13 @@ pub enum Step {
     Flush,
 }
 
-// What a step came to, and what it tells, in this order.
+// The result of a step, and the events that it reports, in this order.
 #[derive(Drop)]
 pub(crate) struct Stepped {
     pub turned: Turned,
     pub first: Option<Event>,
     pub second: Option<Event>,
-    // the room that was handed in, where it was not needed
+    // The buffer that was passed in, if the step did not use it.
     pub room: Option<Box<Exchanged>>,
 }
 
@@ -81,7 +81,7 @@ pub(crate) fn make<D: SectorDisk, L: DeviceLink, F: Name>(
     }
 }
 
-// Makes a step of a port. Of a port that has no link nothing is told, and nothing changes.
+// Makes a step of a port. If the port has no link, nothing is reported and nothing changes.
 fn step_port<D: SectorDisk, L: DeviceLink, F: Name>(
     master: &mut EngineOnDisk<D, F>,
     links: &mut Vec<L>,

@@ -1,4 +1,4 @@
-//! The tasks of a schedule, and how a run makes them.
+//! The tasks of a schedule, and how a run carries them out.
 
 ghost use Rattle.std.specs.Prelude.{◌≡◌};
 ghost use Rattle.iol_run.specs.Runs.{KeepsRun};
@@ -19,11 +19,11 @@ use iol_types::{Change, PortId};
 pub enum Task {
     /// A client asks for a change.
     Client(Change),
-    /// A port makes so many steps.
+    /// A port makes `times` steps.
     Port { port: PortId, times: u16 },
-    /// The flusher makes so many turns. One that wants memory counts, and the next one tries again.
+    /// The flusher makes `times` turns. A turn that is out of memory counts, and the next one tries again.
     Flush { times: u16 },
-    /// The flusher makes turns until one finds nothing to do, as the queue is empty or the disk has failed. One that wants
+    /// The flusher makes turns until one finds nothing to do, as the queue is empty or the disk has failed. A turn that is out of
     /// memory ends the schedule.
     Drain,
 }
@@ -40,7 +40,7 @@ impl From<Step> for Task {
     }
 }
 
-// Makes the tasks of a schedule, up to one in which memory runs out, and counts the turns that had to wait.
+// Carries out the tasks of a schedule, up to one that runs out of memory, and counts the turns that had to wait.
 pub(crate) fn make_tasks<D: SectorDisk, L: DeviceLink, F: Name>(
     run: &mut Run<D, L, F>,
     schedule: &[Task],
@@ -60,7 +60,7 @@ pub(crate) fn make_tasks<D: SectorDisk, L: DeviceLink, F: Name>(
     (Ended::Whole, waits)
 }
 
-// Makes a task.
+// Carries out a task.
 fn make_task<D: SectorDisk, L: DeviceLink, F: Name>(
     run: &mut Run<D, L, F>,
     task: Task,
@@ -76,7 +76,7 @@ fn make_task<D: SectorDisk, L: DeviceLink, F: Name>(
     }
 }
 
-// Makes one step so many times.
+// Makes one step `times` times.
 fn repeat<D: SectorDisk, L: DeviceLink, F: Name>(
     run: &mut Run<D, L, F>,
     step: &Step,
@@ -111,7 +111,7 @@ fn drain<D: SectorDisk, L: DeviceLink, F: Name>(run: &mut Run<D, L, F>) -> (Ende
     (Ended::Memory, 0)
 }
 
-// Whether a turn counts as a wait.
+// Counts a turn that had to wait as 1, and any other as 0.
 fn waits_of(turned: Turned) -> u64
     ensures { result ≡ waits_of turned }
 {

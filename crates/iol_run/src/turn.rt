@@ -1,22 +1,22 @@
-//! What a turn of the flusher came to.
+//! The result of a turn of the flusher.
 
 ghost use Rattle.std.specs.Prelude.{◌≡◌, ◌∷◌, []};
 ghost use Rattle.iol_engine.specs.Events.{event_of, told_of};
 
 use iol_engine::Event;
 
-/// What a turn of the flusher came to.
+/// The result of a turn of the flusher.
 #[derive(Clone, Copy, Debug, PartialEq, Eq)]
 pub enum Turned {
     /// It took a batch, made a disk call, published or acknowledged.
     Made,
-    /// Nothing was to be done, or a disk call had failed before.
+    /// There was nothing to do, or a disk call had failed before.
     Idle,
-    /// It wanted memory; nothing changed, and the next turn tries again.
+    /// It was out of memory. Nothing changed, and the next turn tries again.
     Waited,
 }
 
-/// A turn of the flusher: what it came to, and what it tells.
+/// A turn of the flusher: its result, and the event that it reports, if there is one.
 #[derive(Drop)]
 pub struct Turn {
     pub turned: Turned,
@@ -24,7 +24,7 @@ pub struct Turn {
 }
 
 impl Turn {
-    // It tells nothing.
+    // Makes a turn that reports nothing.
     pub(crate) fn silent(turned: Turned) -> Turn
         ensures { (result.turned ≡ turned) × (told_of result.event ≡ []) }
     {
@@ -34,7 +34,7 @@ impl Turn {
         }
     }
 
-    // Something is made, and told.
+    // Makes a turn that did something, and reports this event.
     pub(crate) fn telling(event: Event) -> Turn
         ensures { (result.turned ≡ Turned.Made) × (told_of result.event ≡ event_of event ∷ []) }
     {

@@ -1,7 +1,7 @@
--- What values say one after another.
+-- What values give, one after another.
 use Rattle.std.proofs.Common.{◌≡◌, List, [], ◌∷◌, ◌++◌, map, Option, Some, None, option_map, refl, ap, append_assoc}
 
--- what the next one says stands behind what those before it say, and in front of what those that are left say
+-- the result of the next value comes after those of the values before it, and before those of the remaining ones
 in_order : {A B : Type 0} (f : A → B) (before : List A) (next : A) (left : List B)
     → map f before ++ (f next ∷ left) ≡ map f (before ++ next ∷ []) ++ left
 in_order f [] next left = refl
@@ -13,7 +13,7 @@ pub said_in_order : {A B : Type 0} (f : A → B) (before : List A) (next : A) (l
 said_in_order f before next None = refl
 said_in_order f before next (Some left) = ap Some (in_order f before next left)
 
--- the next one, in front of those that are left, is the last one of those so far
+-- the next value before the remaining ones is the last of those so far
 pub appended_in_order : {A : Type 0} (before : List A) (next : A) (left : Option (List A))
     → option_map (λ others. before ++ others) (option_map (λ others. next ∷ others) left)
     ≡ option_map (λ others. (before ++ next ∷ []) ++ others) left

@@ -8,8 +8,8 @@ use Rattle.iol_script.specs.Parameters.{parameters_in, entries_of}
 use Rattle.iol_script.specs.declared.device.Device.{Device}
 use Rattle.iol_script.specs.declared.device.TheConstants.{USUAL_REVISION}
 
--- what a script says of a device: the port that it is at, its numbers, whether it takes ISDUs, has its flag set and is
--- locked, its parameters, and after how many calls it is lost and raises its event (format, Scripts)
+-- what a script says about a device: its port, its numbers, whether it supports ISDUs, has its flag set and is locked,
+-- its parameters, and the numbers of calls after which it is lost and raises its event (format, Scripts)
 pub record SaidDevice : Type 0 where
   pub port : ℕ
   pub vendor : ℕ
@@ -28,7 +28,7 @@ device_keys =
     codes "port" ∷ codes "vendor" ∷ codes "device" ∷ codes "revision" ∷ codes "isdu" ∷ codes "flag" ∷ codes "locked"
     ∷ codes "keys" ∷ codes "values" ∷ codes "answers" ∷ codes "event" ∷ []
 
--- the device with these parameters that a table says; what has a usual value may be missing (format, Scripts)
+-- the device in a table, with these parameters; keys that have a default may be missing (format, Scripts)
 abbrev pub device_with : List Entry → Members → Option SaidDevice
 device_with parameters table =
     option_and_then (λ port.
@@ -55,18 +55,18 @@ device_with parameters table =
     (truth_or false (codes "flag") table)) (truth_or true (codes "isdu") table)) (octet_or USUAL_REVISION (codes "revision") table))
     (device_in table)) (vendor_in table)) (port_in table)
 
--- the device that a table says (format, Scripts)
+-- the device in a table (format, Scripts)
 abbrev pub device_by : Members → Option SaidDevice
 device_by table =
     if has_only_keys device_keys table then
     option_and_then (λ parameters. device_with parameters table) (parameters_in table)
     else None
 
--- the device that a value says (format, Scripts)
+-- the device in a value (format, Scripts)
 abbrev pub device_of : Data → Option SaidDevice
 device_of value = option_and_then device_by (as_table value)
 
--- what a device that was read says (format, Scripts)
+-- what the script says about a device that was read (format, Scripts)
 abbrev pub said_device : Device → SaidDevice
 said_device device = record {
   port = device.port;

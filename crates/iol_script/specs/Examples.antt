@@ -1,4 +1,4 @@
--- The values and the device that examples speak of.
+-- The values, devices and scripts of the examples.
 use Rattle.std.specs.Prelude.{ℕ, zero, suc, ◌+◌, ℤ, pos, true, false, List, [], ◌∷◌, ◌++◌, replicate, codes, Some, None}
 use Rattle.toml.specs.Data.{Data, integer, array, Items, no_items, item, Members, no_members, member}
 use Rattle.iol_types.specs.declared.config.PortMode.TheVariants.{IolManual}
@@ -25,16 +25,16 @@ numbers said = array (items_of said)
 abbrev pub empty_at : ℕ → ℕ → Entry
 empty_at index subindex = (record { index = index; subindex = subindex }, [])
 
--- for worked examples: so many parameters with no octets, from an Index on (own)
+-- for worked examples: `count` parameters with no octets, at consecutive Indexes from this one on (own)
 abbrev pub empty_from : ℕ → ℕ → List Entry
 empty_from index zero = []
 empty_from index (suc count) = empty_at index 0 ∷ empty_from (index + 1) count
 
--- for worked examples: a table that says a whole number at a key, and nothing else (own)
+-- for worked examples: a table with a whole number at a key, and nothing else (own)
 abbrev pub said_at : List ℕ → ℤ → Members
 said_at key number = member key (integer number) no_members
 
--- for worked examples: a text of so many spaces (own)
+-- for worked examples: a text of `count` spaces (own)
 abbrev pub blanks : ℕ → List ℕ
 blanks count = replicate count 0x20
 
@@ -72,7 +72,7 @@ example_text =
     ++ codes "[[device]]\nport = 1\nvendor = 500\ndevice = 0xABCD\nanswers = 10\nkeys = [[64, 0], [65, 1]]\n"
     ++ codes "values = [\"0A64\", \"7f\"]\n"
 
--- for worked examples: a device whose every value differs from the one that a missing key stands for (own)
+-- for worked examples: a device whose every value differs from the default of its key (own)
 abbrev pub full_device : SaidDevice
 full_device = record {
   port = 2;
@@ -87,7 +87,7 @@ full_device = record {
   event = Some 3;
 }
 
--- for worked examples: a script with that device, a step of each kind, a disk call that fails, and a stop (own)
+-- for worked examples: a script with that device, a step of each kind but a rollback, a disk call that fails, and a stop (own)
 abbrev pub full_script : Said
 full_script = record {
   ports = pos 3;
@@ -110,7 +110,7 @@ full_text =
     ++ codes "[[device]]\nport = 2\nvendor = 501\ndevice = 7\nrevision = 16\nisdu = false\nflag = true\nlocked = true\n"
     ++ codes "keys = [[80, 9]]\nvalues = [\"fF\"]\nanswers = 4\nevent = 3\n"
 
--- for worked examples: a script for a master that runs in threads, with that device, and a step of each kind (own)
+-- for worked examples: a script for a master that runs in threads, with that device, and a configuration and a clear (own)
 abbrev pub live_script : SaidLive
 live_script = record {
   devices = full_device ∷ [];

@@ -10,7 +10,7 @@ use Rattle.iol_disk.specs.declared.fault.DiskFault.TheVariants.{Read, Write, Syn
 use Rattle.iol_script.specs.declared.fail.FailingCall.{FailingCall}
 use Rattle.iol_script.specs.declared.fail.TheConstants.{LAST_FAILING_CALL}
 
--- a kind of disk call, by its word (format, Scripts)
+-- the kind of disk call that a word names (format, Scripts)
 abbrev pub kind_of : List ℕ → Option DiskFault
 kind_of word =
     if bytes_eq word (codes "read") then Some Read
@@ -29,13 +29,13 @@ number_in digits =
     if has_first_digit digits && all_ascii_digits digits && nat_le (digits_value 10 digits) LAST_FAILING_CALL
     then Some (digits_value 10 digits) else None
 
--- the call that a text says: its kind before the first space, and its number behind it (format, Scripts)
+-- the call that a text names: its kind before the first space, and its number after it (format, Scripts)
 abbrev pub call_in : List ℕ → Option FailingCall
 call_in text =
     option_and_then (λ kind. option_map (λ number. record { kind = kind; number = number })
     (number_in (after_first (λ octet. octet == 32) text))) (kind_of (before_first (λ octet. octet == 32) text))
 
--- the call that the value of the key `fail` says; where the key is missing none fails (format, Scripts)
+-- the call that the value of the key `fail` names; if the key is missing, no call fails (format, Scripts)
 abbrev pub fail_of : Option Data → Option (Option FailingCall)
 fail_of None = Some None
 fail_of (Some value) = option_map Some (option_and_then call_in (as_str value))

@@ -18,7 +18,7 @@ pub record SaidLive : Type 0 where
   pub devices : List SaidDevice
   pub changes : List Change
 
--- what a step asks for, where it is a client's; the steps of ports and of the flusher are none (format, Scripts)
+-- what a step asks for, if it is a client's; steps of ports and of the flusher are none (format, Scripts)
 abbrev pub change_by : Step → Option Change
 change_by (Configure port config) = Some (change.Configure port config)
 change_by (Clear port) = Some (change.Clear port)
@@ -27,21 +27,21 @@ change_by (Port port times) = None
 change_by (Flush times) = None
 change_by Drain = None
 
--- what the table of a step asks for, where it says a client's step (format, Scripts)
+-- what the table of a step asks for, if it is a client's step (format, Scripts)
 abbrev pub change_in : Members → Option Change
 change_in table = option_and_then change_by (step_in table)
 
--- what the value of a step asks for, where it says a client's step (format, Scripts)
+-- what the value of a step asks for, if it is a client's step (format, Scripts)
 abbrev pub change_of : Data → Option Change
 change_of value = option_and_then change_by (step_of value)
 
--- what the values of steps ask for, if each says a client's step (format, Scripts)
+-- what the values of steps ask for, if each is a client's step (format, Scripts)
 abbrev pub changes_of : Items → Option (List Change)
 changes_of no_items = Some []
 changes_of (item value values) =
     option_and_then (λ change. option_map (λ changes. change ∷ changes) (changes_of values)) (change_of value)
 
--- what a table says, if it has the keys of a script alone; those of its numbers and of its failing call are not read
+-- what a table says, if it has only the keys of a script; its numbers and its failing call are not read
 -- (format, Scripts)
 abbrev pub live_by : Members → Option SaidLive
 live_by table =
@@ -52,7 +52,7 @@ live_by table =
     (option_and_then devices_of (values_at (codes "device") table))
     else None
 
--- what a text says, if it is TOML and that of such a script (format, Scripts)
+-- what a text says, if it is TOML and such a script (format, Scripts)
 abbrev pub live_in : List ℕ → Option SaidLive
 live_in text = option_and_then live_by (parse_document text)
 

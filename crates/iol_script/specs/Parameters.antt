@@ -12,7 +12,7 @@ use Rattle.iol_script.specs.Parameter.{parameter_of, entry_of}
 use Rattle.iol_script.specs.declared.parameter.Parameter.{Parameter}
 use Rattle.iol_script.specs.declared.parameters.TheConstants.{MOST_PARAMETERS}
 
--- the parameters that keys and octets say, if they are equal in number (format, Scripts)
+-- the parameters that keys and octets give, if they are equal in number (format, Scripts)
 abbrev pub parameters_of : Items → Items → Option (List Entry)
 parameters_of no_items no_items = Some []
 parameters_of no_items (item value values) = None
@@ -20,22 +20,22 @@ parameters_of (item key keys) no_items = None
 parameters_of (item key keys) (item value values) =
     option_and_then (λ parameter. option_map (λ parameters. parameter ∷ parameters) (parameters_of keys values)) (parameter_of key value)
 
--- no key stands twice (own)
+-- all keys are distinct (own)
 abbrev pub are_distinct : List Key → Bool
 are_distinct [] = true
 are_distinct (key ∷ keys) = not (list_any (same_key key) keys) && are_distinct keys
 
--- parameters that a device may have: no key stands twice, and they are at most 70 (format, Scripts)
+-- parameters that a device may have: at most 70, with distinct keys (format, Scripts)
 abbrev pub of_device : List Entry → Option (List Entry)
 of_device parameters =
     if nat_le (length parameters) MOST_PARAMETERS && are_distinct (keys_of parameters) then Some parameters else None
 
--- the parameters that the table of a device says by `keys` and `values` (format, Scripts)
+-- the parameters in the table of a device, at `keys` and `values` (format, Scripts)
 abbrev pub parameters_in : Members → Option (List Entry)
 parameters_in table =
     option_and_then (λ keys. option_and_then (λ values. option_and_then of_device (parameters_of keys values))
     (values_at (codes "values") table)) (values_at (codes "keys") table)
 
--- what parameters that were read say (format, Scripts)
+-- the keys and octets of parameters that were read (format, Scripts)
 abbrev pub entries_of : List Parameter → List Entry
 entries_of parameters = map entry_of parameters

@@ -42,7 +42,7 @@ said_with ports slots fail devices values =
       keep = (before_stop values).1;
     }) (steps_of (before_stop values).0)
 
--- what a table says, if it is that of a script (format, Scripts)
+-- what a table says, if it is the table of a script (format, Scripts)
 abbrev pub said_by : Members → Option Said
 said_by table =
     if has_only_keys script_keys table then
@@ -55,11 +55,11 @@ said_by table =
     (integer_at (codes "slots") table)) (integer_at (codes "ports") table)
     else None
 
--- what a text says, if it is TOML and that of a script (format, Scripts)
+-- what a text says, if it is TOML and a script (format, Scripts)
 abbrev pub said_in : List ℕ → Option Said
 said_in text = option_and_then said_by (parse_document text)
 
--- a text that is judged: UTF-8 of at most 65,536 octets (format, Scripts)
+-- a text that may be a script: UTF-8 of at most 65,536 octets (format, Scripts)
 pub record IsText (text : List ℕ) : Type 0 where
   pub short : length text ≤ SCRIPT_OCTETS
   pub utf8 : IsUtf8 text
@@ -75,13 +75,13 @@ said_of script = record {
   keep = script.keep;
 }
 
--- a port is one of the first so many (own)
+-- a port is one of the first `ports` (own)
 abbrev pub is_port_of : ℤ → ℕ → Bool
 is_port_of (pos ports) port = nat_le port ports
 is_port_of (negsuc n) port = false
 
--- a step makes steps of a port that is one of the first so many, or of no port; a command of another port is refused
--- when it comes (format, Scripts)
+-- a step of a port is at one of the first `ports`; every other step fits, as a command of another port is refused when it
+-- comes (format, Scripts)
 abbrev pub step_fits : ℤ → Step → Bool
 step_fits ports (Port port times) = is_port_of ports port
 step_fits ports (Configure port config) = true
@@ -90,7 +90,7 @@ step_fits ports (Rollback port) = true
 step_fits ports (Flush times) = true
 step_fits ports Drain = true
 
--- the devices and the steps of ports are at the ports of the script (format, Scripts)
+-- all devices and all steps of ports are at ports of the script (format, Scripts)
 abbrev pub fits_ports : Said → Bool
 fits_ports said =
     list_all (λ (device : SaidDevice). is_port_of said.ports device.port) said.devices && list_all (step_fits said.ports) said.steps

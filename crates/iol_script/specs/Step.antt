@@ -19,11 +19,11 @@ mode_in table = option_and_then mode_of (number_below (2 ^ 8) (codes "mode") tab
 abbrev pub validation_in : Members → Option Validation
 validation_in table = option_and_then validation_of (number_below (2 ^ 8) (codes "validation") table)
 
--- octets that are a label (own)
+-- these octets, if they are a label (own)
 abbrev pub label_of : List ℕ → Option (List ℕ)
 label_of octets = if is_label octets then Some octets else None
 
--- the label of a port: the octets of a text, and none where the key is missing (format, Scripts)
+-- the label of a port: the octets of a text, or none if the key is missing (format, Scripts)
 abbrev pub label_or_none : Option Data → Option (List ℕ)
 label_or_none None = Some []
 label_or_none (Some value) = option_and_then label_of (as_str value)
@@ -31,7 +31,7 @@ label_or_none (Some value) = option_and_then label_of (as_str value)
 abbrev pub label_in : Members → Option (List ℕ)
 label_in table = label_or_none (get_member (codes "label") table)
 
--- the configuration of a port that a table says (format, Scripts)
+-- the configuration of a port in a table (format, Scripts)
 abbrev pub config_in : Members → Option PortConfig
 config_in table =
     option_and_then (λ mode.
@@ -41,7 +41,7 @@ config_in table =
     option_map (λ label. record { mode = mode; validation = validation; vendor = vendor; device = device; label = label })
     (label_in table)) (device_in table)) (vendor_in table)) (validation_in table)) (mode_in table)
 
--- the keys of each kind of step, and the kind itself at the key `do` (format, Scripts)
+-- the keys of each kind of step; the kind itself is at the key `do` (format, Scripts)
 abbrev pub configure_keys : List (List ℕ)
 configure_keys =
     codes "do" ∷ codes "port" ∷ codes "mode" ∷ codes "validation" ∷ codes "vendor" ∷ codes "device" ∷ codes "label" ∷ []
@@ -61,7 +61,7 @@ flush_keys = codes "do" ∷ codes "times" ∷ []
 abbrev pub drain_keys : List (List ℕ)
 drain_keys = codes "do" ∷ []
 
--- the step that a table of this kind says (format, Scripts)
+-- the step in a table of this kind (format, Scripts)
 abbrev pub configure_in : Members → Option Step
 configure_in table =
     if has_only_keys configure_keys table then
@@ -86,7 +86,7 @@ flush_in table = if has_only_keys flush_keys table then option_map Flush (times_
 abbrev pub drain_in : Members → Option Step
 drain_in table = if has_only_keys drain_keys table then Some Drain else None
 
--- the step that a table says, by its kind (format, Scripts)
+-- the step in a table, by its kind (format, Scripts)
 abbrev pub step_of_kind : List ℕ → Members → Option Step
 step_of_kind kind table =
     if bytes_eq kind (codes "configure") then configure_in table
@@ -97,10 +97,10 @@ step_of_kind kind table =
     else if bytes_eq kind (codes "drain") then drain_in table
     else None
 
--- the step that a table says, by its kind at the key `do` (format, Scripts)
+-- the step in a table, by its kind at the key `do` (format, Scripts)
 abbrev pub step_in : Members → Option Step
 step_in table = option_and_then (λ kind. step_of_kind kind table) (text_at (codes "do") table)
 
--- the step that a value says (format, Scripts)
+-- the step in a value (format, Scripts)
 abbrev pub step_of : Data → Option Step
 step_of value = option_and_then (λ table. option_and_then (λ kind. step_of_kind kind table) (text_at (codes "do") table)) (as_table value)

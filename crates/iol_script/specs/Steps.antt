@@ -7,19 +7,19 @@ use Rattle.iol_script.specs.Step.{step_of}
 use Rattle.iol_script.specs.Stop.{stop_of}
 use Rattle.iol_script.specs.declared.step.Step.{Step}
 
--- the last value without the stop that it may say, and what the stop keeps (format, Scripts)
+-- the last value, unless it is a stop, and what the stop keeps (format, Scripts)
 abbrev pub without_stop : Data → Option Pick → Items × Pick
 without_stop value (Some keep) = (no_items, keep)
 without_stop value None = (item value no_items, New)
 
--- the values before the stop, which is the last one, and what it keeps; a script without a stop keeps what is new
+-- the values before the stop, which is the last one, and what it keeps; without a stop, a script keeps what is new
 -- (format, Scripts)
 abbrev pub before_stop : Items → Items × Pick
 before_stop no_items = (no_items, New)
 before_stop (item value no_items) = without_stop value (stop_of value)
 before_stop (item value values) = (item value (before_stop values).0, (before_stop values).1)
 
--- the steps that the values say, if each says one (format, Scripts)
+-- the steps in values, if each value is one (format, Scripts)
 abbrev pub steps_of : Items → Option (List Step)
 steps_of no_items = Some []
 steps_of (item value values) = option_and_then (λ step. option_map (λ steps. step ∷ steps) (steps_of values)) (step_of value)

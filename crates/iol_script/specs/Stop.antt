@@ -19,13 +19,13 @@ keep_of word =
     else if bytes_eq word (codes "pattern") then Some Pattern
     else None
 
--- what the stop keeps that a table says (format, Scripts)
+-- what the stop in a table keeps (format, Scripts)
 abbrev pub stop_in : Members → Option Pick
 stop_in table = if has_only_keys stop_keys table then option_and_then keep_of (text_at (codes "keep") table) else None
 
 abbrev pub stop_of_kind : List ℕ → Members → Option Pick
 stop_of_kind kind table = if bytes_eq kind (codes "stop") then stop_in table else None
 
--- what the stop keeps that a value says (format, Scripts)
+-- what the stop in a value keeps (format, Scripts)
 abbrev pub stop_of : Data → Option Pick
 stop_of value = option_and_then (λ table. option_and_then (λ kind. stop_of_kind kind table) (text_at (codes "do") table)) (as_table value)

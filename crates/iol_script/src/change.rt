@@ -8,8 +8,8 @@ use crate::step::Step;
 use iol_types::Change;
 use toml::Table;
 
-/// The change that a table asks for: it has the keys of a step `configure`, `clear` or `rollback` of a script, with `do`, and
-/// no other. `None` if the table says no such step.
+/// The change that a table asks for. The table has the keys of a step `configure`, `clear` or `rollback` of a script, with `do`,
+/// and no other. `None` if the table is no such step.
 pub fn change_in(table: &Table) -> Option<Change>
     ensures { result ≡ change_in (table_view table.now) }
 {

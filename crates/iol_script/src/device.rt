@@ -10,10 +10,10 @@ use iol_types::{DeviceId, PortId};
 use std::alloc::Global;
 use toml::{Table, Value};
 
-/// The RevisionID of a device whose script does not say it: V1.1.
+/// The RevisionID of a device whose script gives none: V1.1.
 pub const USUAL_REVISION: u8 = 17;
 
-/// A simulated device. The devices of one port are there one after another, in the order of the script.
+/// A simulated device. The devices of one port are connected one after another, in the order of the script.
 #[derive(Drop)]
 pub struct Device {
     /// The port that it is at.
@@ -30,12 +30,12 @@ pub struct Device {
     pub flag: bool,
     /// Whether its Data Storage is locked.
     pub locked: bool,
-    /// Its parameters, at most [`MOST_PARAMETERS`](crate::MOST_PARAMETERS), each under a key of its own.
+    /// Its parameters, at most [`MOST_PARAMETERS`](crate::MOST_PARAMETERS), with distinct keys.
     pub parameters: Vec<Parameter>,
-    /// How many link calls it answers. The next call is lost, and then the port's next device is there. `None`: it
-    /// answers all.
+    /// The number of link calls that it answers. The next call is lost, and then the port's next device is connected.
+    /// `None` means that it answers all calls.
     pub answers: Option<u64>,
-    /// After how many answered calls it sets its flag and raises its event, if it does.
+    /// The number of answered calls after which it sets its flag and raises its event, if it does.
     pub event: Option<u64>,
 }
 
@@ -45,10 +45,10 @@ impl Device {
     ghost use Rattle.iol_types.specs.DataSet.{Entry};
     ghost use Rattle.iol_script.specs.Device.{device_of, device_by, device_with, said_device};
 
-    // The device that a value says, a table with `port`, `vendor` and `device`; the other keys may be missing.
+    // Reads a device from a value, a table with `port`, `vendor` and `device`; the other keys may be missing.
     //
     // # Errors
-    // `NotValid` where it says none; `Memory` where it is out of memory.
+    // `NotValid` if the value is not a device; `Memory` if it is out of memory.
     pub(crate) fn read(alloc: Global, value: &Value) -> Result<Device, ScriptFault>
         ensures device { IfOk result (λ device. device_of (view value.now) ≡ Some (said_device device)) }
         ensures not_valid { result ≡ Err ScriptFault.NotValid → device_of (view value.now) ≡ None }
@@ -78,7 +78,7 @@ impl Device {
         }
     }
 
-    // The device that a table says, before its parameters are there: they would be let go at each `?`.
+    // Reads all of a device but its parameters, which each `?` here would have to drop.
     fn without_parameters(alloc: Global, table: &Table) -> Option<Device>
         ensures { (parameters : List Entry)
             → option_map (λ device. record (said_device device) { parameters = parameters }) result

@@ -8,10 +8,10 @@ use crate::script::ScriptFault;
 use std::alloc::Global;
 use toml::Value;
 
-// The devices that the values say, in their order.
+// Reads devices from values, in order.
 //
 // # Errors
-// `NotValid` where a value says no device; `Memory` where it is out of memory.
+// `NotValid` if a value is not a device; `Memory` if it is out of memory.
 pub(crate) fn read_devices(alloc: Global, values: &[Value]) -> Result<Vec<Device>, ScriptFault>
     ensures devices { IfOk result (λ devices. devices_of (items_view values.now) ≡ Some (said_devices devices.items)) }
     ensures not_valid { result ≡ Err ScriptFault.NotValid → devices_of (items_view values.now) ≡ None }

@@ -1,5 +1,5 @@
-//! What scripts say, worked out by the check: a number that is wrong in a definition and in the code alike is refused
-//! here.
+//! Worked examples of what scripts say, evaluated by the check: they catch a number that is wrong both in a definition and
+//! in the code.
 
 ghost use Rattle.std.specs.Prelude.{◌≡◌, pos, negsuc, true, false, [], ◌∷◌, map, replicate, codes, Some, None};
 ghost use Rattle.toml.specs.Data.{integer, string, member, no_members};
@@ -20,28 +20,28 @@ ghost use Rattle.iol_types.specs.declared.command.Change.TheVariants as change;
 
 use crate::device::USUAL_REVISION;
 
-/// A step is made once, or 1 to 10,000 times.
+/// `times` is 1 to 10,000, or 1 if it is missing.
 pub fn times()
     ensures absent { times_of None ≡ Some 1 }
     ensures said { map (λ number. times_of (Some (integer number))) (negsuc 0 ∷ pos 0 ∷ pos 1 ∷ pos 10000 ∷ pos 10001 ∷ [])
         ≡ None ∷ None ∷ Some 1 ∷ Some 10000 ∷ None ∷ [] }
 {}
 
-/// A device is of revision 17, or 0 to 255.
+/// `revision` is 0 to 255, or 17 if it is missing.
 pub fn revisions()
     ensures absent { octet_of USUAL_REVISION None ≡ Some 0x11 }
     ensures said { map (λ number. octet_of USUAL_REVISION (Some (integer number))) (negsuc 0 ∷ pos 0 ∷ pos 255 ∷ pos 256 ∷ [])
         ≡ None ∷ Some 0 ∷ Some 255 ∷ None ∷ [] }
 {}
 
-/// A device answers without end, or 0 to 2^63 - 1 calls.
+/// A number of calls is 0 to 2^63 - 1. If `answers` is missing, a device answers all calls.
 pub fn calls()
     ensures absent { calls_of None ≡ Some None }
     ensures said { map (λ number. calls_of (Some (integer number))) (negsuc 0 ∷ pos 0 ∷ pos 9223372036854775807 ∷ [])
         ≡ None ∷ Some (Some 0) ∷ Some (Some 9223372036854775807) ∷ [] }
 {}
 
-/// A port is numbered 1 to 32, a vendor 0 to 65,535, and a device of it 0 to 16,777,215.
+/// A port number is 1 to 32, a VendorID 0 to 65,535, and a DeviceID 0 to 16,777,215.
 pub fn identities()
     ensures ports { map (λ number. port_in (said_at (codes "port") number)) (negsuc 0 ∷ pos 0 ∷ pos 1 ∷ pos 32 ∷ pos 33 ∷ [])
         ≡ None ∷ None ∷ Some 1 ∷ Some 32 ∷ None ∷ [] }
@@ -52,14 +52,14 @@ pub fn identities()
     ensures missing { map vendor_in (said_at (codes "device") (pos 1) ∷ said_at (codes "Vendor") (pos 1) ∷ []) ≡ None ∷ None ∷ [] }
 {}
 
-/// What a stop keeps: one of four words.
+/// What a stop keeps is one of four words.
 pub fn words_of_a_stop()
     ensures words { map keep_of (codes "old" ∷ codes "new" ∷ codes "zero" ∷ codes "pattern" ∷ [])
         ≡ Some pick.Old ∷ Some pick.New ∷ Some pick.Zero ∷ Some pick.Pattern ∷ [] }
     ensures others { map keep_of (codes "" ∷ codes "Old" ∷ codes "news" ∷ codes "zer" ∷ []) ≡ None ∷ None ∷ None ∷ None ∷ [] }
 {}
 
-/// The call that fails: one of three words, a space, and a number of 1 to 1,000,000 without sign or leading zero.
+/// A failing call is one of three words, a space, and a number of 1 to 1,000,000 without sign or leading zero.
 pub fn failing_calls()
     ensures words { map kind_of (codes "read" ∷ codes "write" ∷ codes "sync" ∷ codes "Read" ∷ codes "" ∷ [])
         ≡ Some disk_call.Read ∷ Some disk_call.Write ∷ Some disk_call.Sync ∷ None ∷ None ∷ [] }
@@ -72,7 +72,7 @@ pub fn failing_calls()
         ≡ None ∷ None ∷ None ∷ None ∷ None ∷ [] }
 {}
 
-/// A key is an Index of two octets and a Subindex of one, and its Index is not 0000, 0002 or 0003.
+/// A key is an Index of two octets, other than 0000, 0002 and 0003, and a Subindex of one octet.
 pub fn keys()
     ensures least { key_of (numbers (pos 1 ∷ pos 0 ∷ [])) ≡ Some (record { index = 1; subindex = 0 }) }
     ensures greatest { key_of (numbers (pos 65535 ∷ pos 255 ∷ [])) ≡ Some (record { index = 65535; subindex = 255 }) }
@@ -84,7 +84,7 @@ pub fn keys()
         ≡ None ∷ None ∷ None ∷ [] }
 {}
 
-/// Octets are pairs of hexadecimal digits of either case, and may be none.
+/// Octets are written as pairs of hexadecimal digits of either case; there may be none.
 pub fn octets()
     ensures cases { octets_in (codes "0A64fFbC") ≡ Some (0x0A ∷ 0x64 ∷ 0xFF ∷ 0xBC ∷ []) }
     ensures none { octets_in [] ≡ Some [] }
@@ -93,7 +93,7 @@ pub fn octets()
     ensures letter { octets_in (codes "0G") ≡ None }
 {}
 
-/// A value is of 0 to 232 octets.
+/// A value has 0 to 232 octets.
 pub fn lengths()
     ensures longest { octets_in (replicate 464 48) ≡ Some (replicate 232 0x00) }
     ensures longer { octets_in (replicate 466 48) ≡ None }
@@ -106,14 +106,14 @@ pub fn counts()
     ensures more { of_device (empty_from 64 71) ≡ None }
 {}
 
-/// No key of a device stands twice; keys that differ in one number are two.
+/// A device has each key at most once; keys that differ in one number are two keys.
 pub fn distinct_keys()
     ensures twice { of_device (empty_at 64 0 ∷ empty_at 65 0 ∷ empty_at 64 0 ∷ []) ≡ None }
     ensures near { of_device (empty_at 64 0 ∷ empty_at 65 0 ∷ empty_at 64 1 ∷ [])
         ≡ Some (empty_at 64 0 ∷ empty_at 65 0 ∷ empty_at 64 1 ∷ []) }
 {}
 
-/// The ports of a script are 1 to their number; where that is 0 or less there is none.
+/// The ports of a script are 1 to `ports`; if `ports` is 0 or less, there are none.
 pub fn ports()
     ensures two { map (is_port_of (pos 2)) (1 ∷ 2 ∷ 3 ∷ []) ≡ true ∷ true ∷ false ∷ [] }
     ensures none { is_port_of (pos 0) 1 ≡ false }
@@ -123,7 +123,7 @@ pub fn ports()
     ensures steps { fits_ports (record example_script { ports = pos 0; devices = [] }) ≡ false }
 {}
 
-/// A label is a text of 0 to 32 octets that print, without a quotation mark; where it is missing it is empty, and nothing else is one.
+/// A label is a text of 0 to 32 printable octets without a quotation mark. A missing label is empty; no other type is a label.
 pub fn labels()
     ensures texts { map (λ text. label_or_none (Some (string text))) ([] ∷ codes "Pump 3" ∷ replicate 32 65 ∷ [])
         ≡ Some [] ∷ Some (codes "Pump 3") ∷ Some (replicate 32 65) ∷ [] }
@@ -139,7 +139,7 @@ pub fn a_script()
     ensures { said_in example_text ≡ Some example_script }
 {}
 
-/// A whole script, in which each key of a device and of a step has another value than where it is missing.
+/// A whole script, in which each key of a device and of a step has a value other than its default.
 pub fn a_full_script()
     ensures { said_in full_text ≡ Some full_script }
 {}
@@ -152,14 +152,14 @@ pub fn a_live_script()
     ensures no_key { live_in (codes "port = 2\n") ≡ None }
 {}
 
-/// A port's step, one of the flusher, a drain and a stop are no steps of a client.
+/// A step of a port or of the flusher, a drain and a stop are not steps of a client.
 pub fn steps_of_no_client()
     ensures steps { map change_by (Port 1 1 ∷ Flush 1 ∷ Drain ∷ []) ≡ None ∷ None ∷ None ∷ [] }
     ensures stop { live_in (codes "step = [{ do = \"stop\", keep = \"new\" }]\n") ≡ None }
     ensures drain { live_in (codes "step = [{ do = \"clear\", port = 2 }, { do = \"drain\" }]\n") ≡ None }
 {}
 
-/// A text of 65,536 octets is judged, and one of one octet more is not.
+/// A script may have 65,536 octets, but not one more.
 pub fn text_lengths()
     ensures longest { IsText (blanks 65536) }
     ensures longer { IsText (blanks 65537) → ⊥ }

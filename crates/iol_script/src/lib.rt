@@ -1,14 +1,17 @@
-//! Scripts: what an operator writes in TOML for a run, read to numbers, a failing disk call, devices, steps and a stop.
+//! Scripts: what an operator writes in TOML for a run, read as numbers, a failing disk call, devices, steps and a stop.
 //!
-//! In come the octets of a text; out comes a [`Script`], by [`Script::read`], or why there is none; for a master that runs
-//! in threads it is a [`LiveScript`], by [`LiveScript::read`]. The numbers of
-//! ports and slots stand in it as they stand in the text: whether they are those of a disk, and by
-//! [`Script::fits_ports`] whether the devices are at those ports, is for the caller to judge, after the text.
+//! [`Script::read`] takes the octets of a text and returns a [`Script`], or why there is none. For a master that runs in
+//! threads, [`LiveScript::read`] returns a [`LiveScript`]. A [`Script`] holds the numbers of ports and slots as the text
+//! has them. After the text, the caller checks whether they are a geometry, and with [`Script::fits_ports`] whether the
+//! devices are at those ports.
 //!
-//! Modules in reading order: `table` looks up a table's keys, and `number` reads the numbers there; `fail`, `parameter`,
-//! `device`, `step` and `stop` read one value, `parameters`, `devices` and `steps` all of them, `text`, `script` and
-//! `live_script` the whole text, `change` one table alone, and `examples` has values worked out. What a text says is
-//! defined in `specs/Script.antt` and `specs/LiveScript.antt`.
+//! Modules in reading order:
+//! - `table` looks up the keys of a table, and `number` reads the numbers there.
+//! - `fail`, `parameter`, `device`, `step` and `stop` read one value, `parameters`, `devices` and `steps` all of them.
+//! - `text`, `script` and `live_script` read the whole text, and `change` a single table.
+//! - `examples` has worked examples.
+//!
+//! What a text says is defined in `specs/Script.antt` and `specs/LiveScript.antt`.
 #![tactic(auto)]
 
 mod change;

@@ -13,10 +13,10 @@ use iol_types::Change;
 use std::alloc::Global;
 use toml::{Table, Value};
 
-/// What a script says to a master that runs in threads: the devices at its ports, and what its clients ask for.
+/// A script for a master that runs in threads: the devices at its ports, and what its clients ask for.
 ///
-/// The image says how many ports there are, a port's worker makes its steps, and the flusher its own. So the steps are
-/// those of clients alone, and of `ports`, `slots` and `fail` nothing is read.
+/// The image has the number of ports, and each port and the flusher make their steps by themselves. So all steps of the
+/// script are those of clients, and `ports`, `slots` and `fail` are not read.
 #[derive(Drop)]
 pub struct LiveScript {
     /// The simulated devices, in order.
@@ -31,10 +31,10 @@ impl LiveScript {
     ghost use Rattle.iol_script.specs.LiveScript.{live_by, live_in, live_of};
     ghost use Rattle.iol_script.specs.Script.{IsText};
 
-    /// The script in a text of at most 65,536 octets: TOML with the keys of a script, each of whose steps is a client's.
+    /// Reads a script from a text of at most 65,536 octets: TOML with the keys of a script, each of whose steps is a client's.
     ///
     /// # Errors
-    /// `NotValid` where the text is no such script; `Memory` where reading a text is out of memory.
+    /// `NotValid` if the text is no such script; `Memory` if reading the text runs out of memory.
     pub fn read(alloc: Global, text: &[u8]) -> Result<LiveScript, ScriptFault>
         ensures text { OnOk result (IsText text.now) }
         ensures script { IfOk result (λ script. live_in text.now ≡ Some (live_of script)) }
@@ -60,10 +60,10 @@ impl LiveScript {
     }
 }
 
-// What the values of steps ask for, in their order.
+// The changes that the values of steps ask for, in order.
 //
 // # Errors
-// `NotValid` where a value says no step of a client; `Memory` where it is out of memory.
+// `NotValid` if a value is not a step of a client; `Memory` if it is out of memory.
 fn read_changes(alloc: Global, values: &[Value]) -> Result<Vec<Change>, ScriptFault>
     ensures changes { IfOk result (λ changes. changes_of (items_view values.now) ≡ Some changes.items) }
     ensures not_valid { result ≡ Err ScriptFault.NotValid → changes_of (items_view values.now) ≡ None }
@@ -76,14 +76,14 @@ fn read_changes(alloc: Global, values: &[Value]) -> Result<Vec<Change>, ScriptFa
     Ok(changes)
 }
 
-// What the value of a step asks for, where the step is a client's.
+// The change that the value of a step asks for, if the step is a client's.
 fn read_change(value: &Value) -> Option<Change>
     ensures { result ≡ change_of (view value.now) }
 {
     change_by(Step::read(value)?)
 }
 
-// What a step asks for, if a client may make it.
+// The change that a step asks for, if a client may make it.
 pub(crate) fn change_by(step: Step) -> Option<Change>
     ensures { result ≡ change_by step }
 {

@@ -1,4 +1,4 @@
-//! The numbers that a script says.
+//! The numbers in a script.
 ghost use Rattle.std.specs.Prelude.{◌≡◌, ◌^◌};
 ghost use Rattle.toml.specs.View.{view, table_view};
 ghost use Rattle.iol_script.specs.Number.{number_of, number_below, port_in, vendor_in, device_in, octet_or, calls_at, times_in};
@@ -7,7 +7,7 @@ use crate::table::{integer_at, value_at};
 use iol_types::{DeviceId, PortId};
 use toml::{Table, Value};
 
-/// The most times that one step is made.
+/// The greatest number of times that one step is made.
 pub const MOST_TIMES: u16 = 10_000;
 
 /// The port of a step or a device, at the key `port`: a whole number of 1 to 32.
@@ -38,7 +38,7 @@ pub(crate) fn octet_at(table: &Table, key: &str) -> Option<u8>
     u8::try_from(integer_at(table, key)?).ok()
 }
 
-// The whole number of 0 to 255 at a key, or `absent` where the key is missing.
+// The whole number of 0 to 255 at a key, or `absent` if the key is missing.
 pub(crate) fn octet_or(table: &Table, key: &str, absent: u8) -> Option<u8>
     ensures { result ≡ octet_or absent key.now (table_view table.now) }
 {
@@ -48,21 +48,21 @@ pub(crate) fn octet_or(table: &Table, key: &str, absent: u8) -> Option<u8>
     }
 }
 
-// The whole number of 0 to 255 that a value says.
+// The whole number of 0 to 255 in a value.
 pub(crate) fn octet_of(value: &Value) -> Option<u8>
     ensures { result ≡ number_of (2 ^ 8) (view value.now) }
 {
     u8::try_from(value.as_integer()?).ok()
 }
 
-// The whole number of 0 to 65,535 that a value says.
+// The whole number of 0 to 65,535 in a value.
 pub(crate) fn word_of(value: &Value) -> Option<u16>
     ensures { result ≡ number_of (2 ^ 16) (view value.now) }
 {
     u16::try_from(value.as_integer()?).ok()
 }
 
-// The number of calls at a key: nothing, or a whole number from 0 on; `None` where the value there says none.
+// The number of calls at a key, a whole number from 0 on: `Some(None)` if the key is missing, `None` if the value is no such number.
 pub(crate) fn calls_at(table: &Table, key: &str) -> Option<Option<u64>>
     ensures { result ≡ calls_at key.now (table_view table.now) }
 {
@@ -72,14 +72,14 @@ pub(crate) fn calls_at(table: &Table, key: &str) -> Option<Option<u64>>
     }
 }
 
-// The whole number from 0 on that a value says.
+// The whole number from 0 on in a value.
 fn count_of(value: &Value) -> Option<u64>
     ensures { result ≡ number_of (2 ^ 63) (view value.now) }
 {
     u64::try_from(value.as_integer()?).ok()
 }
 
-// How often a step is made, at the key `times`: 1 to 10,000 times, and once where the key is missing.
+// The number of times that a step is made, at the key `times`: 1 to 10,000, or 1 if the key is missing.
 pub(crate) fn times_in(table: &Table) -> Option<u16>
     ensures { result ≡ times_in (table_view table.now) }
 {

@@ -1,4 +1,4 @@
-//! A parameter of a device: a key, and the octets that it has.
+//! A parameter of a device: its key and its octets.
 ghost use Rattle.std.specs.Prelude.{◌≡◌, None, Some, IfOk};
 ghost use Rattle.toml.specs.View.{view};
 ghost use Rattle.iol_script.specs.Parameter.{key_of, key_of_pair, octets_in, octets_of};
@@ -13,7 +13,7 @@ use toml::Value;
 /// A parameter of a device.
 #[derive(Drop)]
 pub struct Parameter {
-    /// Its name, which is not reserved.
+    /// Its Index and Subindex, which are not reserved.
     pub key: Key,
     /// Its octets, at most [`MOST_ENTRY_OCTETS`].
     pub octets: Vec<u8>,
@@ -24,10 +24,10 @@ impl Parameter {
     ghost use Rattle.toml.specs.View.{view};
     ghost use Rattle.iol_script.specs.Parameter.{parameter_of, entry_of};
 
-    // The parameter that two values say: `[64, 0]`, its Index and Subindex, and `"0A64"`, its octets.
+    // Reads a parameter from two values, such as `[64, 0]`, its Index and Subindex, and `"0A64"`, its octets.
     //
     // # Errors
-    // `NotValid` where they say none; `Memory` where it is out of memory.
+    // `NotValid` if the values are not a parameter; `Memory` if it is out of memory.
     pub(crate) fn read(alloc: Global, key: &Value, octets: &Value) -> Result<Parameter, ScriptFault>
         ensures parameter { IfOk result (λ parameter. parameter_of (view key.now) (view octets.now) ≡ Some (entry_of parameter)) }
         ensures not_valid { result ≡ Err ScriptFault.NotValid → parameter_of (view key.now) (view octets.now) ≡ None }
@@ -38,7 +38,7 @@ impl Parameter {
     }
 }
 
-// The key that a value says, an array of an Index and a Subindex.
+// The key in a value: an array of an Index and a Subindex.
 fn key_of(value: &Value) -> Option<Key>
     ensures { result ≡ key_of (view value.now) }
 {
@@ -59,7 +59,7 @@ fn key_of_pair(index: &Value, subindex: &Value) -> Option<Key>
     if key.is_reserved() { None } else { Some(key) }
 }
 
-// The octets that a value says, which is a text.
+// The octets in a value, which must be a text.
 fn octets_of(alloc: Global, value: &Value) -> Result<Vec<u8>, ScriptFault>
     ensures octets { IfOk result (λ octets. octets_of (view value.now) ≡ Some octets.items) }
     ensures not_valid { result ≡ Err ScriptFault.NotValid → octets_of (view value.now) ≡ None }
@@ -68,7 +68,7 @@ fn octets_of(alloc: Global, value: &Value) -> Result<Vec<u8>, ScriptFault>
     octets_in(alloc, text)
 }
 
-// The octets that a text says: for each two hexadecimal digits, of either case, and nothing else.
+// The octets that a text writes: two hexadecimal digits of either case for each, and nothing else.
 fn octets_in(alloc: Global, text: &str) -> Result<Vec<u8>, ScriptFault>
     ensures octets { IfOk result (λ octets. octets_in text.now ≡ Some octets.items) }
     ensures not_valid { result ≡ Err ScriptFault.NotValid → octets_in text.now ≡ None }

@@ -13,13 +13,13 @@ use iol_types::Key;
 use std::alloc::Global;
 use toml::{Table, Value};
 
-/// The most parameters that a device has.
+/// The greatest number of parameters of a device.
 pub const MOST_PARAMETERS: usize = 70;
 
-// The parameters that the table of a device says, by the keys `keys` and `values`.
+// Reads the parameters in the table of a device, at the keys `keys` and `values`.
 //
 // # Errors
-// `NotValid` where it says none that a device may have; `Memory` where it is out of memory.
+// `NotValid` if they are not parameters that a device may have; `Memory` if it is out of memory.
 pub(crate) fn parameters_in(alloc: Global, table: &Table) -> Result<Vec<Parameter>, ScriptFault>
     ensures parameters { IfOk result (λ parameters. parameters_in (table_view table.now) ≡ Some (entries_of parameters.items)) }
     ensures not_valid { result ≡ Err ScriptFault.NotValid → parameters_in (table_view table.now) ≡ None }
@@ -37,10 +37,10 @@ pub(crate) fn parameters_in(alloc: Global, table: &Table) -> Result<Vec<Paramete
     }
 }
 
-// The parameters that keys and octets say.
+// Reads parameters from values: each key with the octets at the same place.
 //
 // # Errors
-// `NotValid` where two of them say no parameter; `Memory` where it is out of memory.
+// `NotValid` if a key and its octets are not a parameter; `Memory` if it is out of memory.
 fn read_parameters(
     alloc: Global,
     keys: &[Value],
@@ -59,7 +59,7 @@ fn read_parameters(
     Ok(parameters)
 }
 
-// Whether no key stands twice.
+// Whether all keys are distinct.
 fn are_distinct(parameters: &[Parameter]) -> bool
     ensures { result ≡ are_distinct (keys_of (entries_of parameters.now)) }
 {

@@ -15,7 +15,7 @@ use std::alloc::{AllocError, AllocFailed, Global};
 use thiserror::Error;
 use toml::Table;
 
-/// The most octets that a script has.
+/// The greatest number of octets of a script.
 pub const SCRIPT_OCTETS: usize = 65_536;
 
 // The keys of a script.
@@ -24,27 +24,27 @@ pub(crate) const TOP_KEYS: [&str; 5] = ["ports", "slots", "fail", "device", "ste
 /// What a script says.
 #[derive(Drop)]
 pub struct Script {
-    /// The number of ports, as it stands in the text.
+    /// The number of ports, as written in the text.
     pub ports: i64,
-    /// The number of slots in each area, as it stands in the text.
+    /// The number of slots in each area, as written in the text.
     pub slots: i64,
     /// The disk call that fails, if one does.
     pub fail: Option<FailingCall>,
     /// The simulated devices, in order.
     pub devices: Vec<Device>,
-    /// What is done, in order.
+    /// The steps, in order.
     pub steps: Vec<Step>,
-    /// What the stop at the end leaves of the sectors that no sync has settled.
+    /// What the stop at the end leaves of the sectors that were written since the last sync.
     pub keep: Pick,
 }
 
 /// Why a text is not read as a script.
 #[derive(Clone, Copy, Debug, Error)]
 pub enum ScriptFault {
-    /// It is over [`SCRIPT_OCTETS`], no UTF-8, no TOML, or says something else than a script.
+    /// The text is longer than [`SCRIPT_OCTETS`], not UTF-8, not TOML, or not a script.
     #[error("the script is not valid")]
     NotValid,
-    /// Memory ran out.
+    /// Out of memory.
     #[error("out of memory")]
     Memory,
 }
@@ -70,12 +70,12 @@ impl Script {
     ghost use Rattle.toml.specs.View.{table_view};
     ghost use Rattle.iol_script.specs.Script.{IsText, said_by, said_in, said_of, fits_ports, is_port_of, step_fits};
 
-    /// The script in a text of at most 65,536 octets: TOML with the whole numbers `ports` and `slots`, of any size
-    /// that 64 bits hold. It may name a disk call that fails, simulated devices and steps. The last step may be a stop;
-    /// where it is none, a stop that keeps what is new is added.
+    /// Reads a script from a text of at most 65,536 octets: TOML with the whole numbers `ports` and `slots`, of any size
+    /// that fits 64 bits. It may name a disk call that fails, simulated devices and steps. The last step may be a stop;
+    /// if it is not, a stop that keeps what is new is added.
     ///
     /// # Errors
-    /// `NotValid` where the text is no script; `Memory` where reading a text is out of memory.
+    /// `NotValid` if the text is not a script; `Memory` if reading the text runs out of memory.
     pub fn read(alloc: Global, text: &[u8]) -> Result<Script, ScriptFault>
         ensures text { OnOk result (IsText text.now) }
         ensures script { IfOk result (λ script. said_in text.now ≡ Some (said_of script)) }
@@ -111,8 +111,8 @@ impl Script {
         })
     }
 
-    /// Whether each device, and each step that is a port's own, is at one of the script's `ports`: what a run asks of a
-    /// script, behind its text and before its geometry. A command of another port is no fault, but is refused when it
+    /// Whether each device, and each step of a port itself, is at one of the script's `ports`. A run requires this, and
+    /// checks it after the text and before the geometry. A command of another port is no fault, but is refused when it
     /// comes.
     pub fn fits_ports(&self) -> bool
         ensures { result ≡ fits_ports (said_of self.now) }

@@ -9,7 +9,7 @@ use crate::table::{has_only_keys, text_at, value_at};
 use iol_types::{Label, PortConfig, PortId, PortMode, Validation};
 use toml::{Table, Value};
 
-/// A step of a script, but for the stop that ends it.
+/// A step of a script, other than the stop that ends it.
 #[derive(Clone, Copy)]
 pub enum Step {
     /// A client gives a port a configuration.
@@ -22,7 +22,7 @@ pub enum Step {
     Port { port: PortId, times: u16 },
     /// The flusher makes this many steps, 1 to [`MOST_TIMES`](crate::MOST_TIMES).
     Flush { times: u16 },
-    /// All that is queued is written to the disk.
+    /// The flusher writes all that is queued to the disk.
     Drain,
 }
 
@@ -31,16 +31,16 @@ impl Step {
     ghost use Rattle.toml.specs.View.{view, table_view};
     ghost use Rattle.iol_script.specs.Step.{step_of, step_in};
 
-    // The step that a value says: `{ do = "drain" }`, `{ do = "clear", .. }` or `{ do = "rollback", .. }` with its port,
-    // `{ do = "configure", .. }` with its five whole numbers and perhaps a label, `{ do = "port", .. }` with its port, or
-    // `{ do = "flush" }`, the last two perhaps with how often they are made.
+    // Reads a step from a value. These have only their port: `{ do = "clear", .. }` and `{ do = "rollback", .. }`.
+    // `{ do = "configure", .. }` has five whole numbers, and may have a label. `{ do = "port", .. }`, with its port, and
+    // `{ do = "flush" }` may say how often they are made. `{ do = "drain" }` has no other key.
     pub(crate) fn read(value: &Value) -> Option<Step>
         ensures { result ≡ step_of (view value.now) }
     {
         Step::in_table(value.as_table()?)
     }
 
-    // The step that a table says, by its kind at the key `do`.
+    // Reads the step in a table, whose kind is at the key `do`.
     pub(crate) fn in_table(table: &Table) -> Option<Step>
         ensures { result ≡ step_in (table_view table.now) }
     {
@@ -144,7 +144,7 @@ fn config_in(table: &Table) -> Option<PortConfig>
     })
 }
 
-/// The label of a port at the key `label`: a text of 0 to 32 octets from 20 to 7E but 22. It is empty if the key is missing.
+/// The label of a port at the key `label`: a text of 0 to 32 octets from 20 to 7E other than 22. It is empty if the key is missing.
 pub fn label_in(table: &Table) -> Option<Label>
     ensures { result ≡ label_in (table_view table.now) }
 {

@@ -10,7 +10,7 @@ use iol_disk::Pick;
 use std::alloc::Global;
 use toml::Value;
 
-// The values before the stop, and what the stop keeps: what is new where the last value is no stop.
+// Splits off the stop: returns the values before it and what it keeps. Without a stop it returns all values and `New`.
 pub(crate) fn before_stop(values: &[Value]) -> (&[Value], Pick)
     ensures { (items_view result.0.now, result.1) ≡ before_stop (items_view values.now) }
 {
@@ -22,10 +22,10 @@ pub(crate) fn before_stop(values: &[Value]) -> (&[Value], Pick)
     (values, Pick::New)
 }
 
-// The steps that the values say, none of which is a stop.
+// Reads steps from values, none of which may be a stop.
 //
 // # Errors
-// `NotValid` where a value says no step; `Memory` where it is out of memory.
+// `NotValid` if a value is not a step; `Memory` if it is out of memory.
 pub(crate) fn read_steps(alloc: Global, values: &[Value]) -> Result<Vec<Step>, ScriptFault>
     ensures steps { IfOk result (λ steps. steps_of (items_view values.now) ≡ Some steps.items) }
     ensures not_valid { result ≡ Err ScriptFault.NotValid → steps_of (items_view values.now) ≡ None }

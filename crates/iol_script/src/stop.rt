@@ -7,7 +7,7 @@ use crate::table::{has_only_keys, text_at};
 use iol_disk::Pick;
 use toml::{Table, Value};
 
-// What the stop keeps that a value says: `{ do = "stop", keep = ".." }`.
+// Reads what a stop keeps from a value: `{ do = "stop", keep = ".." }`.
 pub(crate) fn read_stop(value: &Value) -> Option<Pick>
     ensures { result ≡ stop_of (view value.now) }
 {

@@ -1,4 +1,4 @@
-//! The table that a script's text writes (docs/FORMATS.md, "Scripts").
+//! Reads the text of a script as a table of TOML (docs/FORMATS.md, "Scripts").
 ghost use Rattle.std.specs.Prelude.{◌≡◌, None, Some, IfOk, OnOk};
 ghost use Rattle.toml.specs.Parse.{parse_document};
 ghost use Rattle.toml.specs.View.{table_view};
@@ -9,10 +9,10 @@ use std::alloc::Global;
 use std::str;
 use toml::Table;
 
-// The table in a text of at most 65,536 octets.
+// Reads the table in a text of at most 65,536 octets.
 //
 // # Errors
-// `NotValid` where the text is too long, no UTF-8 or no TOML; `Memory` where reading a text is out of memory.
+// `NotValid` if the text is too long, not UTF-8 or not TOML; `Memory` if reading the text runs out of memory.
 pub(crate) fn read_table(alloc: Global, text: &[u8]) -> Result<Table, ScriptFault>
     ensures text { OnOk result (IsText text.now) }
     ensures table { IfOk result (λ table. parse_document text.now ≡ Some (table_view table)) }

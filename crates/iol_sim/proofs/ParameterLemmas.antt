@@ -1,4 +1,4 @@
--- Parameters of a device: in memory and apart from it, one more, and written.
+-- The parameters of a device: in memory and as entries, with one more, and with one written.
 use Rattle.std.proofs.Common.{◌≡◌, ℕ, ◌≤◌, ◌<◌, Bool, true, false, cond, List, [], ◌∷◌, ◌++◌, length, Option, Some, None}
 use Rattle.std.proofs.Common.{refl, ap, sym, ◌∙◌, subst, arith, is_some, length-append, zero, suc}
 use Rattle.std.specs.Prelude.{nat_lt, All, slice_get}
@@ -23,7 +23,7 @@ use Rattle.iol_sim.specs.declared.parameters.DeviceFault.TheVariants.{ReservedKe
 
 -- ---- in memory
 
--- a key is there exactly where its parameter is
+-- a key is in the map exactly if its parameter is there
 pub is_some-entries_of : (test : Key → Bool) (kept : List (Key × ArrayVec ℕ)) → is_some (lookup test (entries_of kept))
     ≡ is_some (lookup test kept)
 is_some-entries_of test kept =
@@ -41,7 +41,7 @@ none-entries_of test kept absent = by (lookup test kept) (sym (is_some-entries_o
 
 -- ---- one more
 
--- what holds where nothing refuses a parameter
+-- the facts that hold if a parameter is not refused
 pub record MayBeAdded (parameters : List Entry) (key : Key) (octets : List ℕ) : Type 0 where
   pub free : is_reserved key ≡ false
   pub short : length octets ≤ MOST_ENTRY_OCTETS
@@ -65,7 +65,7 @@ may_be_added parameters key octets none =
     by false false false true r l t s none =
         record { free = r; short = ltb-false _ _ l; absent = t; few = grind (arith, nat_tests, s) }
 
--- a parameter that nothing refuses may stand behind the others
+-- a parameter that is not refused may follow the others
 pub one-more : (parameters : List Entry) (key : Key) (octets : List ℕ) → AreParameters parameters → IsKey key
     → MayBeAdded parameters key octets → AreParameters (parameters ++ (key, octets) ∷ [])
 one-more parameters key octets are in_range may =
@@ -76,7 +76,7 @@ one-more parameters key octets are in_range may =
       few = omega (arith, length-append parameters ((key, octets) ∷ []), may.few);
     }
 
--- the parameters in memory once one that nothing refuses was put behind them
+-- the parameters in memory after one that is not refused was added after them
 pub record Grown (kept later : List (Key × ArrayVec ℕ)) (key : Key) (octets : List ℕ) : Type 0 where
   pub entries : entries_of later ≡ entries_of kept ++ (key, octets) ∷ []
   pub are : AreParameters (entries_of later)
@@ -106,7 +106,8 @@ entries_of-written (entry ∷ kept) key value =
       | false ↦ ap (λ es. (entry.0, entry.1.items) ∷ es) (entries_of-written kept key value)
     ]
 
--- a parameter that is there, written with at most 232 octets, leaves parameters, as many
+-- writing an existing parameter with at most 232 octets leaves parameters with the same keys and
+-- the same number
 pub record Written (old new : List Entry) : Type 0 where
   pub each : All IsEntry new
   pub keys : keys_of new ≡ keys_of old

@@ -1,4 +1,4 @@
--- A script answers_in_order its answers in order.
+-- A script gives its answers in order.
 use Rattle.std.proofs.Common.{◌≡◌, ℕ, ◌+◌, ◌-◌, ◌<◌, ◌≤◌, Option, None, Bool, true, false, cond, List, [], ◌∷◌, ◌++◌, length, take, map}
 use Rattle.std.proofs.Common.{refl, ap, sym, ◌∙◌, subst, arith, append_assoc, suc}
 use Rattle.std.specs.Prelude.{◌==◌, nat_lt, min, replicate, All}
@@ -24,13 +24,13 @@ answers_of made = map (λ m. m.answer) made
 abbrev Asks : List Answered → List (List ℕ) → Type 0
 Asks made requests = map (λ m. m.call) made ≡ map Exchange requests
 
--- with no answer left every request is lost
+-- if no answer is left, every request is lost
 unanswered : (b : Bool) (old new : Script) (request : List ℕ) (answer : LinkAnswer)
     → NextStep old (cond b [] []) request answer new → NextStep old [] request answer new
 unanswered true old new request answer h = h
 unanswered false old new request answer h = h
 
--- with no answer left, each exchange is lost
+-- if no answer is left, each exchange is lost
 emptied : (kept : List (List ℕ)) (page : Option (List ℕ)) (events : List ℕ) (connection : ℕ) (last : Script) (made : List Answered)
     (requests : List (List ℕ)) → connection ≤ last_connection
     → Runs (script_of [] kept page events connection) made last → Asks made requests
@@ -59,14 +59,14 @@ emptied kept page events connection last (m ∷ ms) (r ∷ rs) within run asks =
       connection = omega (arith, h.connection);
     }
 
--- where the test says that there is an answer, it is the next
+-- if the test says that there is an answer, it is the next one
 answered : (b : Bool) (old new : Script) (left : List (List ℕ)) (request : List ℕ)
     (answer : LinkAnswer) → b ≡ false → NextStep old (cond b [] left) request answer new
     → NextStep old left request answer new
 answered true old new left request answer is h = cc
 answered false old new left request answer is h = h
 
--- while answers are left, each exchange has the next
+-- while answers are left, each exchange is answered with the next one
 pub answers_in_order : (left kept : List (List ℕ)) (page : Option (List ℕ)) (events : List ℕ) (connection : ℕ)
     (last : Script) (made : List Answered)
     (requests : List (List ℕ)) → connection < last_connection

@@ -6,7 +6,7 @@ use Rattle.iol_link.specs.Link.{ReadPage, Exchange, Octets, last_connection}
 use Rattle.iol_sim.specs.Device.{Device, Answers, page_of}
 use Rattle.iol_sim.specs.SimLink.{VisitValue, Sim, SimStep, PageStep, ExchangeStep, answering, has_answer, with_present, after_answer}
 
--- the visit that answers is that at the link's place
+-- the visit that answers is the one at the place of the link
 pub answering-is : (sim : Sim) (visit : VisitValue) → is_some (answering sim) ≡ true → visit ≡ get_or sim.visits sim.place visit
     → answering sim ≡ Some visit
 answering-is sim visit some at = by (sim.connection == last_connection) (slice_get sim.visits sim.place) refl some
@@ -24,13 +24,13 @@ answering-is sim visit some at = by (sim.connection == last_connection) (slice_g
     by false (Some other) is some =
         pick (has_answer other) other (sym (get_or_from_slice_get sim.visits sim.place other visit is) ∙ sym at) some
 
--- the step of a page that is read
+-- the step when a page is read
 pub page-step : (old new : Sim) (visit : VisitValue) (page : List ℕ) → answering old ≡ Some visit → page ≡ page_of visit.device
     → new ≡ with_present old (after_answer visit visit.device) → SimStep old ReadPage (Octets page) new
 page-step old new visit page is read stepped =
     subst (λ (found : Option VisitValue). PageStep old found (Octets page) new) (sym is) (ap Octets read, stepped)
 
--- the step of a request that is answered
+-- the step when a request is answered
 pub exchange-step : (old new : Sim) (visit : VisitValue) (request octets : List ℕ) (device : Device) → answering old ≡ Some visit
     → Answers visit.device request octets device → new ≡ with_present old (after_answer visit device)
     → SimStep old (Exchange request) (Octets octets) new

@@ -1,4 +1,4 @@
--- What a step of a simulated link leaves, and a run.
+-- The facts that a step of a simulated link keeps, and a run.
 use Rattle.std.proofs.Common.{◌≡◌, ℕ, ◌≤◌, zero, suc, true, false, cond, List, [], ◌∷◌, Option, Some, None, refl, ap, sym, ◌∙◌, subst}
 use Rattle.std.proofs.Common.{arith}
 use Rattle.std.specs.Prelude.{◌==◌, slice_get, slice_set}
@@ -6,7 +6,7 @@ use Rattle.iol_link.specs.Link.{LinkCall, LinkAnswer, TakeEvent, ReadPage, Excha
 use Rattle.iol_sim.specs.SimLink.{VisitValue, Sim, SimStep, EventStep, PageStep, ExchangeStep, present, answering, with_present, left_by}
 use Rattle.iol_sim.specs.SimLink.{after_loss}
 
--- a write elsewhere leaves what is at a place
+-- a write at another place leaves the item at this place unchanged
 set-others : (visits : List VisitValue) (place k : ℕ) (visit : VisitValue) → (k ≡ place → ⊥)
     → slice_get (slice_set visits place visit) k ≡ slice_get visits k
 set-others [] place k visit apart = refl
@@ -15,8 +15,8 @@ set-others (other ∷ visits) zero (suc k) visit apart = refl
 set-others (other ∷ visits) (suc place) zero visit apart = refl
 set-others (other ∷ visits) (suc place) (suc k) visit apart = set-others visits place k visit (λ same. apart (ap suc same))
 
--- what a step leaves: the connection does not sink, while it stays so does the place, and the visits
--- at other places stay
+-- the facts after a step: the connection does not fall; while it stays the same, so does the place;
+-- and the visits at other places stay the same
 pub record Left (old new : Sim) : Type 0 where
   pub rises : old.connection ≤ new.connection
   pub stays : new.connection ≡ old.connection → new.place ≡ old.place
@@ -64,7 +64,7 @@ exchange-left : (old new : Sim) (request : List ℕ) (found : Option VisitValue)
 exchange-left old new request None answer step = subst (Left old) (sym step.1) (lost old)
 exchange-left old new request (Some visit) answer step = subst (Left old) (sym step.4) (changed old _)
 
--- what each step leaves
+-- these facts hold after each step
 pub step-left : (old new : Sim) (call : LinkCall) (answer : LinkAnswer) → SimStep old call answer new → Left old new
 step-left old new TakeEvent answer step = event-left old new (present old) answer step
 step-left old new ReadPage answer step = page-left old new (answering old) answer step
@@ -78,7 +78,7 @@ run-rises first last [] run = omega (arith, ap (λ (sim : Sim). sim.connection) 
 run-rises first last (call ∷ made) run =
     omega (arith, (step-left first run.0 call.call call.answer run.2).rises, run-rises run.0 last made run.3)
 
--- a run that ends on the connection on which it began ends at its place
+-- a run that ends on the connection on which it began ends at the same place
 pub run-stays : (first last : Sim) (made : List Answered) → Runs first made last → last.connection ≡ first.connection
     → last.place ≡ first.place
 run-stays first last [] run same = ap (λ (sim : Sim). sim.place) (sym run)

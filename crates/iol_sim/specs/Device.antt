@@ -1,4 +1,4 @@
--- A simulated device with Data Storage, and what it answers.
+-- A simulated device with Data Storage, and its answers.
 use Rattle.std.specs.Prelude.{◌≡◌, ℕ, ◌+◌, ◌*◌, ◌==◌, ◌&&◌, nat_lt, nat_le, Bool, true, false, if◌then◌else◌, List, [], ◌∷◌, ◌++◌, length}
 use Rattle.std.specs.Prelude.{drop, Option, Some, None, IfSome, Result, Ok, Err}
 use Rattle.std.specs.Option.{option_map_or, ok_or}
@@ -30,8 +30,8 @@ use Rattle.iol_sim.specs.declared.refusal.TheConstants.{DEVICE_APPLICATION_ERROR
 use Rattle.iol_sim.specs.declared.refusal.Refusal.{Refusal}
 use Rattle.iol_sim.specs.declared.refusal.Refusal.TheVariants.{NoIndex, NoSubindex, AccessDenied, OutOfRange, TooLong, TooShort}
 
--- a simulated device: what its page says of it, its parameters in order, the state of its Data
--- Storage, DS_UPLOAD_FLAG, and whether its event is pending (own)
+-- a simulated device: the values on its page, its parameters in order, the state of its Data Storage,
+-- DS_UPLOAD_FLAG, and whether its event is pending (own)
 pub record Device : Type 0 where
   pub vendor : ℕ
   pub device : ℕ
@@ -62,7 +62,7 @@ state_number Locked = 3
 abbrev pub property_octet : Device → ℕ
 property_octet device = state_number device.state * 2 + (if device.flag then 128 else 0)
 
--- what is read of the Data Storage object at a Subindex (standard, Data Storage object)
+-- the value that is read from the Data Storage object at a Subindex (standard, Data Storage object)
 abbrev pub object_read : Device → ℕ → Result (List ℕ) Refusal
 object_read device subindex =
     if subindex == DS_COMMAND then Err AccessDenied
@@ -72,13 +72,13 @@ object_read device subindex =
     else if subindex == INDEX_LIST then Ok (list_octets (keys_of device.parameters) next.End)
     else Err NoSubindex
 
--- what is read of a device at a key (own)
+-- the value that is read from a device at a key (own)
 abbrev pub read_of : Device → Key → Result (List ℕ) Refusal
 read_of device key =
     if key.index == DATA_STORAGE then object_read device key.subindex
     else ok_or (data_at device.parameters key) NoIndex
 
--- the device after a DS_Command that it follows (standard, Data Storage object)
+-- the device after it carries out a DS_Command (standard, Data Storage object)
 abbrev pub after_command : Device → DsCommand → Device
 after_command device UploadStart = record device { state = Upload }
 after_command device UploadEnd = record device { state = Inactive; flag = false }
@@ -86,31 +86,31 @@ after_command device DownloadStart = record device { state = Download }
 after_command device DownloadEnd = record device { state = Inactive; flag = false }
 after_command device Break = record device { state = Inactive }
 
--- the DS_Command in written octets: one octet, which has a command (standard, Data Storage object)
+-- the DS_Command in written octets: one octet, which belongs to a command
+-- (standard, Data Storage object)
 abbrev pub command_in : List ℕ → Option DsCommand
 command_in (octet ∷ []) = ds_command_of octet
 command_in _ = None
 
--- a device whose Data Storage is locked (standard, Data Storage object)
+-- the Data Storage of a device is locked (standard, Data Storage object)
 abbrev pub is_locked : State → Bool
 is_locked Locked = true
 is_locked _ = false
 
--- what DS_Command makes of a device: a locked one follows none (own)
+-- the device after DS_Command is written; a locked device refuses every command (own)
 abbrev pub commanded : Device → List ℕ → Result Device Refusal
 commanded device octets =
     if is_locked device.state then Err AccessDenied
     else option_map_or (λ command. Ok (after_command device command)) (command_in octets) (Err OutOfRange)
 
--- what a write of the Data Storage object at a Subindex makes of a device (standard, Data Storage
--- object)
+-- the device after a write of the Data Storage object at a Subindex (standard, Data Storage object)
 abbrev pub object_written : Device → ℕ → List ℕ → Result Device Refusal
 object_written device subindex octets =
     if subindex == DS_COMMAND then commanded device octets
     else if nat_le STATE_PROPERTY subindex && nat_le subindex INDEX_LIST then Err AccessDenied
     else Err NoSubindex
 
--- a parameter, which has so many octets, is written with as many (own)
+-- a parameter, which has `count` octets, is written with the same number of octets (own)
 abbrev pub parameter_written : Device → Key → List ℕ → ℕ → Result Device Refusal
 parameter_written device key octets count =
     if nat_lt count (length octets) then Err TooLong
@@ -123,7 +123,7 @@ value_written device key octets =
     option_map_or (λ present. parameter_written device key octets (length present))
     (data_at device.parameters key) (Err NoIndex)
 
--- what a write at a key makes of a device (own)
+-- the device after a write at a key (own)
 abbrev pub write_of : Device → Key → List ℕ → Result Device Refusal
 write_of device key octets =
     if key.index == DATA_STORAGE then object_written device key.subindex octets
@@ -139,12 +139,12 @@ abbrev pub write_answer : Result Device Refusal → Answer
 write_answer (Ok device) = WriteOk
 write_answer (Err refusal) = WriteFault DEVICE_APPLICATION_ERROR (code_of refusal)
 
--- the device after a write, which is the same where the write is refused (own)
+-- the device after a write, which is the same if the write is refused (own)
 abbrev pub after_write : Device → Result Device Refusal → Device
 after_write device (Ok after) = after
 after_write device (Err refusal) = device
 
--- what a device answers to a request, and what it is then (own)
+-- the answer of a device to a request, and the device after it (own)
 abbrev pub respond : Device → Request → Answer × Device
 respond device (Read index subindex) =
     (read_answer (read_of device (record { index = index; subindex = subindex })), device)
@@ -156,37 +156,37 @@ respond device (Write index subindex octets) =
 abbrev pub no_service : List ℕ
 no_service = 0x00 ∷ []
 
--- A device answers octets by octets, and is then another: a request by the answer to it, and what is
--- no request by No Service (own)
+-- a device answers octets with octets, and may change: a request with the answer to it, and octets
+-- that are not a request with No Service (own)
 pub record Answers (old : Device) (octets answer : List ℕ) (new : Device) : Type 0 where
   pub request :
       (request : Request) → IsRequest octets request
       → IsAnswer answer (respond old request).0 × (new ≡ (respond old request).1)
   pub others : IfSome (request_fault octets) (λ _. (answer ≡ no_service) × (new ≡ old))
 
--- a device that wants an upload: its flag is set, and its event pending (own)
+-- a device that requests an upload: its flag is set, and its event is pending (own)
 abbrev pub raised : Device → Device
 raised device = record device { flag = true; event = true }
 
--- the device that was written wants an upload (own)
+-- the device after a write requests an upload (own)
 abbrev pub raised_if_written : Result Device Refusal → Result Device Refusal
 raised_if_written (Ok device) = Ok (raised device)
 raised_if_written (Err refusal) = Err refusal
 
--- what a change at the device itself makes of it: a parameter that it has is written, and the device
--- wants an upload (own)
+-- the device after a change at the device itself: an existing parameter is written, and the device
+-- requests an upload (own)
 abbrev pub change_of : Device → Key → List ℕ → Result Device Refusal
 change_of device key octets = raised_if_written (value_written device key octets)
 
--- the event that a device tells, if one is pending (standard, EventCodes)
+-- the event that a device reports, if one is pending (standard, EventCodes)
 abbrev pub told : Device → Option ℕ
 told device = if device.event then Some DS_UPLOAD_REQUEST else None
 
--- the device once it has told its event (own)
+-- the device after it has reported its event (own)
 abbrev pub after_told : Device → Device
 after_told device = record device { event = false }
 
--- a device that was lost: its Data Storage is inactive unless it is locked, and an event that was
--- not told is gone (own)
+-- a device that was lost: its Data Storage is inactive unless it is locked, and a pending event is
+-- dropped (own)
 abbrev pub lost_device : Device → Device
 lost_device device = record device { state = if is_locked device.state then Locked else Inactive; event = false }

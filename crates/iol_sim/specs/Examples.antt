@@ -1,4 +1,4 @@
--- The devices and the links that examples speak of.
+-- The devices and the links that examples use.
 use Rattle.std.specs.Prelude.{ℕ, zero, suc, Bool, true, false, List, [], ◌∷◌, Some, None}
 use Rattle.iol_types.specs.declared.key.Key.{Key}
 use Rattle.iol_types.specs.DataSet.{Entry}
@@ -30,18 +30,19 @@ in_state state flag = record example_device { state = state; flag = flag }
 abbrev pub key : ℕ → ℕ → Key
 key index subindex = record { index = index; subindex = subindex }
 
--- for worked examples: the device, whose parameter 0040.00 has these octets (own)
+-- for worked examples: the device with these octets in its parameter 0040.00 (own)
 abbrev pub with_first : List ℕ → Device
 with_first octets = record example_device {
   parameters = (record { index = 0x0040; subindex = 0 }, octets) ∷ (record { index = 0x0041; subindex = 1 }, 0x7F ∷ []) ∷ [];
 }
 
--- for worked examples: so many parameters with these octets, at Index 1 and on (own)
+-- for worked examples: this number of parameters with these octets, at Index 1 to this number, the highest first
+-- (own)
 abbrev pub alike : ℕ → List ℕ → List Entry
 alike zero octets = []
 alike (suc count) octets = (key (suc count) 0, octets) ∷ alike count octets
 
--- for worked examples: a link with a visit of the device without end, at this place and on this connection (own)
+-- for worked examples: a link with one endless visit of the device, at this place and on this connection (own)
 abbrev pub link_at : ℕ → ℕ → Sim
 link_at place connection = record {
   visits = visit_of example_device None None ∷ [];

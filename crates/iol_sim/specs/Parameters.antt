@@ -16,14 +16,15 @@ use Rattle.iol_sim.specs.declared.parameters.DeviceFault.TheVariants.{ReservedKe
 abbrev pub entries_of : List (Key × ArrayVec ℕ) → List Entry
 entries_of kept = map (λ entry. (entry.0, entry.1.items)) kept
 
--- parameters that a simulated device may have: each may stand in a parameter set, no key stands
--- twice, and they are at most 70 (own)
+-- parameters that a simulated device may have: each is allowed in a parameter set, no key occurs
+-- twice, and there are at most 70 (own)
 pub record AreParameters (parameters : List Entry) : Type 0 where
   pub each : All IsEntry parameters
   pub distinct : IsDistinct same_key (keys_of parameters)
   pub few : length parameters ≤ MOST_PARAMETERS
 
--- why a parameter does not come to others, by the first cause; none where it may (own)
+-- the reason why a parameter is not added to others, the first that applies; none if it may be added
+-- (own)
 abbrev pub add_fault : List Entry → Key → List ℕ → Option DeviceFault
 add_fault parameters key octets =
     if is_reserved key then Some ReservedKey
@@ -32,16 +33,16 @@ add_fault parameters key octets =
     else if nat_lt (length parameters) MOST_PARAMETERS then None
     else Some TooMany
 
--- octets, each times its place, where the first has this place (own)
+-- the sum of these octets, each times its place; the first has this place (own)
 abbrev pub weighted : ℕ → List ℕ → ℕ
 weighted place [] = 0
 weighted place (octet ∷ octets) = place * octet + weighted (place + 1) octets
 
--- the octets of all parameters, one parameter behind the other (own)
+-- the octets of all parameters, one parameter after another (own)
 abbrev pub all_octets : List Entry → List ℕ
 all_octets parameters = flat_map (λ (entry : Entry). entry.1) parameters
 
--- Parameter_Checksum of a simulated device: the octets of all parameters, each times its place, from
--- 1 on, modulo 2^32 (own)
+-- Parameter_Checksum of a simulated device: the sum, modulo 2^32, of the octets of all parameters,
+-- each times its place, counted from 1 (own)
 abbrev pub checksum_of : List Entry → ℕ
 checksum_of parameters = weighted 1 (all_octets parameters) % 2 ^ 32

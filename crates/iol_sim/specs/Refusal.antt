@@ -1,4 +1,4 @@
--- Why a simulated device refuses a request, by AdditionalCodes.
+-- The reasons why a simulated device refuses a request, with their AdditionalCodes.
 use Rattle.std.specs.Prelude.{ℕ}
 use Rattle.iol_sim.specs.declared.refusal.Refusal.{Refusal}
 use Rattle.iol_sim.specs.declared.refusal.Refusal.TheVariants.{NoIndex, NoSubindex, AccessDenied, OutOfRange, TooLong, TooShort}

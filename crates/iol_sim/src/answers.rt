@@ -1,4 +1,4 @@
-//! What a simulated device reads of written octets, and the messages that it answers.
+//! The commands that a simulated device reads in written octets, and its answers.
 
 ghost use Rattle.std.specs.Prelude.{◌≡◌, ◌≤◌, Ok, Err, length, OnOk, IfOk, IfErr};
 ghost use Rattle.iol_link.specs.declared.messages.TheConstants.{DATA_OCTETS};
@@ -11,7 +11,7 @@ use arrayvec::ArrayVec;
 use iol_link::{Answer, DATA_OCTETS, ISDU_OCTETS};
 use iol_transfer::DsCommand;
 
-// The DS_Command in written octets.
+// The DS_Command in written octets, or `None` if they are not one.
 pub(crate) fn command_in(octets: &[u8]) -> Option<DsCommand>
     ensures { result ≡ command_in octets.now }
 {
@@ -59,7 +59,7 @@ pub(crate) fn no_service() -> ArrayVec<u8, ISDU_OCTETS>
     octets
 }
 
-// The octets of a message.
+// The data of a message with these octets.
 pub(crate) fn data_of(octets: &[u8]) -> ArrayVec<u8, DATA_OCTETS>
     requires { length octets.now ≤ DATA_OCTETS }
     ensures { result.items ≡ octets.now }

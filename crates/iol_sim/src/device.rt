@@ -20,7 +20,7 @@ use iol_types::{DATA_STORAGE, DeviceId, Key};
 use std::alloc::Global;
 use std::marker::Model;
 
-/// The EventCode by which a device wants an upload, DS_UPLOAD_REQ (IO-Link V1.1, EventCodes).
+/// The EventCode by which a device requests an upload, DS_UPLOAD_REQ (IO-Link V1.1, EventCodes).
 pub const DS_UPLOAD_REQUEST: u16 = 0xFF91;
 
 /// A simulated device with Data Storage: at most 70 parameters, each under a key that is not
@@ -58,7 +58,7 @@ impl SimDevice {
     ghost use Rattle.iol_sim.specs.Device.{Answers, respond, page_of, property_octet, object_read, read_of, after_command, commanded};
     ghost use Rattle.iol_sim.specs.Device.{object_written, value_written, write_of, change_of, raised, told, after_told, lost_device};
 
-    /// A device with these numbers and no parameters: inactive, with no flag and no event.
+    /// Creates a device with these numbers and no parameters: inactive, with no flag and no event.
     pub fn new(alloc: Global, vendor: u16, device: DeviceId, revision: u8, isdu: bool) -> SimDevice
         ensures { result ≡ record {
           vendor = vendor;
@@ -83,7 +83,7 @@ impl SimDevice {
         }
     }
 
-    /// The device with DS_UPLOAD_FLAG set.
+    /// Returns the device with DS_UPLOAD_FLAG set.
     pub fn with_flag(self) -> SimDevice
         ensures { result ≡ record self { flag = true } }
     {
@@ -92,7 +92,7 @@ impl SimDevice {
         device
     }
 
-    /// The device with its Data Storage locked.
+    /// Returns the device with its Data Storage locked.
     pub fn locked(self) -> SimDevice
         ensures { result ≡ record self { state = state.Locked } }
     {
@@ -101,11 +101,11 @@ impl SimDevice {
         device
     }
 
-    /// Adds a parameter behind the others.
+    /// Adds a parameter after the others.
     ///
     /// # Errors
-    /// The first cause, in the order of [`DeviceFault`]; the device is as it was. `Memory` only
-    /// where no other cause holds.
+    /// The first cause, in the order of [`DeviceFault`]; the device is then unchanged. `Memory` occurs
+    /// only if no other cause applies.
     pub fn add(&mut self, key: Key, octets: &[u8]) -> Result<(), DeviceFault>
         ensures added { OnOk result ((add_fault self.old.parameters key octets.now ≡ None)
             × (self.new ≡ record self.old { parameters = self.old.parameters ++ (key, octets.now) ∷ [] })) }
@@ -143,7 +143,7 @@ impl SimDevice {
         ]
     }
 
-    /// How many parameters it has, at most 70.
+    /// The number of parameters, at most 70.
     pub fn count(&self) -> usize
         ensures count { result ≡ length self.now.parameters }
         ensures parameters { AreParameters self.now.parameters }
@@ -151,7 +151,7 @@ impl SimDevice {
         self.parameters.len()
     }
 
-    /// What its Data Storage does.
+    /// The state of its Data Storage.
     pub fn state(&self) -> State
         ensures { result ≡ self.now.state }
     {
@@ -165,14 +165,14 @@ impl SimDevice {
         self.flag
     }
 
-    /// The octets of a parameter, if the device has it.
+    /// The octets of a parameter, or `None` if the device does not have it.
     pub fn parameter(&self, key: Key) -> Option<&[u8]>
         ensures { option_copied result ≡ data_at self.now.parameters key }
     {
         self.parameters.get(key)
     }
 
-    // State_Property.
+    // The octet of State_Property.
     fn property(&self) -> u8
         ensures { result ≡ property_octet self.now }
     {
@@ -185,7 +185,7 @@ impl SimDevice {
         if self.flag { state + 128 } else { state }
     }
 
-    // What is read at a key.
+    // Reads the object or the parameter with this key.
     fn read(&self, key: Key) -> Result<ArrayVec<u8, DATA_OCTETS>, Refusal>
         ensures octets { IfOk result (λ octets. read_of self.now key ≡ Ok octets.items) }
         ensures refusal { IfErr result (λ refusal. read_of self.now key ≡ Err refusal) }
@@ -199,7 +199,7 @@ impl SimDevice {
         }
     }
 
-    // What is read of the Data Storage object.
+    // Reads the Data Storage object at this subindex.
     fn read_object(&self, subindex: u8) -> Result<ArrayVec<u8, DATA_OCTETS>, Refusal>
         ensures octets { IfOk result (λ octets. object_read self.now subindex ≡ Ok octets.items) }
         ensures refusal { IfErr result (λ refusal. object_read self.now subindex ≡ Err refusal) }
@@ -214,7 +214,7 @@ impl SimDevice {
         }
     }
 
-    // Writes at a key.
+    // Writes the object or the parameter with this key.
     fn write(&mut self, key: Key, octets: &[u8]) -> Result<(), Refusal>
         ensures written { OnOk result (write_of self.old key octets.now ≡ Ok self.new) }
         ensures refusal { IfErr result (λ refusal. write_of self.old key octets.now ≡ Err refusal) }
@@ -227,7 +227,7 @@ impl SimDevice {
         }
     }
 
-    // Writes the Data Storage object.
+    // Writes the Data Storage object at this subindex.
     fn write_object(&mut self, subindex: u8, octets: &[u8]) -> Result<(), Refusal>
         ensures written { OnOk result (object_written self.old subindex octets.now ≡ Ok self.new) }
         ensures refusal { IfErr result (λ refusal. object_written self.old subindex octets.now ≡ Err refusal) }
@@ -240,7 +240,7 @@ impl SimDevice {
         }
     }
 
-    // Follows the DS_Command in these octets.
+    // Carries out the DS_Command in these octets.
     fn command(&mut self, octets: &[u8]) -> Result<(), Refusal>
         ensures written { OnOk result (commanded self.old octets.now ≡ Ok self.new) }
         ensures refusal { IfErr result (λ refusal. commanded self.old octets.now ≡ Err refusal) }
@@ -316,7 +316,8 @@ impl SimDevice {
         }
     }
 
-    /// Answers octets: a request by the octets of its answer, and what is no request by the octet 00.
+    /// Answers octets: the octets of the answer to a request, or the octet 00 if the octets are not a
+    /// request.
     pub fn answer(&mut self, request: &[u8]) -> ArrayVec<u8, ISDU_OCTETS>
         ensures { Answers self.old request.now result.items self.new }
     {
@@ -326,11 +327,11 @@ impl SimDevice {
         }
     }
 
-    /// A parameter gets another value at the device itself, of its own length. The device then wants
-    /// an upload: its flag is set, and its event pending.
+    /// Gives a parameter another value of the same length at the device itself. The device then
+    /// requests an upload: its flag is set, and its event is pending.
     ///
     /// # Errors
-    /// `NoIndex`, `TooLong` or `TooShort`; the device is as it was.
+    /// `NoIndex`, `TooLong` or `TooShort`; the device is then unchanged.
     pub fn change(&mut self, key: Key, octets: &[u8]) -> Result<(), Refusal>
         ensures changed { OnOk result (change_of self.old key octets.now ≡ Ok self.new) }
         ensures refusal { IfErr result (λ refusal. change_of self.old key octets.now ≡ Err refusal) }
@@ -341,7 +342,7 @@ impl SimDevice {
         Ok(())
     }
 
-    /// The device wants an upload: its flag is set, and its event pending.
+    /// Makes the device request an upload: its flag is set, and its event is pending.
     pub fn raise(&mut self)
         ensures { self.new ≡ raised self.old }
     {
@@ -349,7 +350,7 @@ impl SimDevice {
         self.event = true;
     }
 
-    /// The EventCode of its event, where one is pending, which is then told.
+    /// Takes the pending event and returns its EventCode, or `None` if no event is pending.
     pub fn take_event(&mut self) -> Option<u16>
         ensures event { result ≡ told self.old }
         ensures told { self.new ≡ after_told self.old }
@@ -363,8 +364,8 @@ impl SimDevice {
         }
     }
 
-    /// The device is lost: its Data Storage is inactive unless it is locked, and an event that was not
-    /// told is gone. Its parameters and its flag stay.
+    /// Marks the device as lost: its Data Storage is inactive unless it is locked, and a pending event
+    /// is dropped. Its parameters and its flag stay.
     pub fn lose(&mut self)
         ensures { self.new ≡ lost_device self.old }
     {

@@ -1,5 +1,5 @@
-//! A simulated device, worked out by the check: a number that is wrong in a definition and in the
-//! code alike is refused here. The tests read the same octets.
+//! A simulated device, worked out by the check, which rejects a number that is wrong in both a definition and the code.
+//! The tests read the same octets.
 
 ghost use Rattle.std.specs.Prelude.{◌≡◌, ℕ, List, [], ◌∷◌, map, replicate, Some, None, Ok, Err, true, false};
 ghost use Rattle.iol_types.specs.DataSet.{octets_of};
@@ -20,7 +20,7 @@ use crate::device::DS_UPLOAD_REQUEST;
 use crate::parameters::{DeviceFault, MOST_PARAMETERS};
 use crate::refusal::{DEVICE_APPLICATION_ERROR, Refusal};
 
-/// The numbers of refusals, of the event, and how many parameters there may be.
+/// The codes of refusals, the EventCode, and the most parameters.
 pub fn numbers()
     ensures error { DEVICE_APPLICATION_ERROR ≡ 0x80 }
     ensures refusals { map code_of (Refusal.NoIndex ∷ Refusal.NoSubindex ∷ Refusal.AccessDenied ∷ Refusal.OutOfRange
@@ -29,7 +29,7 @@ pub fn numbers()
     ensures parameters { MOST_PARAMETERS ≡ 70 }
 {}
 
-/// What the device with the parameters 0040.00 = 0A 64 and 0041.01 = 7F says of itself.
+/// The page, the size and the checksum of the device with the parameters 0040.00 = 0A 64 and 0041.01 = 7F.
 pub fn the_device()
     ensures page { page_of example_device ≡ 0x00 ∷ 0x00 ∷ 0x17 ∷ 0x01 ∷ 0x11 ∷ 0x00 ∷ 0x00 ∷ 0x01 ∷ 0xF4
         ∷ 0x00 ∷ 0xAB ∷ 0xCD ∷ 0x00 ∷ 0x00 ∷ 0x00 ∷ 0x00 ∷ [] }
@@ -39,7 +39,7 @@ pub fn the_device()
     ensures checksum { checksum_of example_device.parameters ≡ 0x24F }
 {}
 
-/// What is read of its Data Storage object.
+/// The values that are read from its Data Storage object.
 pub fn the_object()
     ensures size { object_read example_device 3 ≡ Ok (0x00 ∷ 0x00 ∷ 0x00 ∷ 0x0B ∷ []) }
     ensures checksum { object_read example_device 4 ≡ Ok (0x00 ∷ 0x00 ∷ 0x02 ∷ 0x4F ∷ []) }
@@ -59,7 +59,7 @@ pub fn properties()
         (state.Inactive ∷ state.Upload ∷ state.Download ∷ state.Locked ∷ []) ≡ 0x80 ∷ 0x82 ∷ 0x84 ∷ 0x86 ∷ [] }
 {}
 
-/// What a lost device keeps: its parameters and its flag, and Locked, but no other state and no event.
+/// A lost device keeps its parameters, its flag and the state Locked, but no other state and no event.
 pub fn lost_devices()
     ensures states { map (λ state. (lost_device (in_state state true)).state)
         (state.Inactive ∷ state.Upload ∷ state.Download ∷ state.Locked ∷ [])
@@ -69,7 +69,7 @@ pub fn lost_devices()
     ensures event { lost_device (raised example_device) ≡ in_state state.Inactive true }
 {}
 
-/// What each DS_Command, from 01 to 05, makes of a device: both ends clear the flag, and DS_Break leaves it.
+/// The effect of each DS_Command, from 01 to 05, on a device: both ends clear the flag, and DS_Break leaves it.
 pub fn commands()
     ensures upload { map (λ octet. commanded (in_state state.Upload true) (octet ∷ [])) (0x01 ∷ 0x02 ∷ 0x05 ∷ [])
         ≡ Ok (in_state state.Upload true) ∷ Ok (in_state state.Inactive false) ∷ Ok (in_state state.Inactive true) ∷ [] }
@@ -83,7 +83,7 @@ pub fn commands()
         ≡ Err Refusal.OutOfRange ∷ Err Refusal.OutOfRange ∷ [] }
 {}
 
-/// A locked device is judged before the command: it follows none, known or not.
+/// A device checks that it is locked before it checks the command: if locked, it refuses every command, known or not.
 pub fn locked_devices()
     ensures known { map (λ octet. commanded (in_state state.Locked true) (octet ∷ [])) (0x01 ∷ 0x02 ∷ 0x05 ∷ [])
         ≡ Err Refusal.AccessDenied ∷ Err Refusal.AccessDenied ∷ Err Refusal.AccessDenied ∷ [] }
@@ -91,7 +91,7 @@ pub fn locked_devices()
         ≡ Err Refusal.AccessDenied ∷ Err Refusal.AccessDenied ∷ Err Refusal.AccessDenied ∷ [] }
 {}
 
-/// Of the Data Storage object DS_Command alone is written.
+/// DS_Command is the only part of the Data Storage object that can be written.
 pub fn writes_of_the_object()
     ensures command { object_written example_device 1 (0x01 ∷ []) ≡ Ok (in_state state.Upload false) }
     ensures read_only { map (λ subindex. object_written example_device subindex (0x01 ∷ [])) (2 ∷ 3 ∷ 4 ∷ 5 ∷ [])
@@ -101,7 +101,7 @@ pub fn writes_of_the_object()
     ensures locked { object_written (in_state state.Locked false) 2 (0x01 ∷ []) ≡ Err Refusal.AccessDenied }
 {}
 
-/// A parameter is read and written with as many octets as it has, and no other key is known.
+/// A parameter is read and written with exactly the octets that it has, and no other key is known.
 pub fn values()
     ensures read { map (read_of example_device) (key 0x0040 0 ∷ key 0x0041 1 ∷ []) ≡ Ok (0x0A ∷ 0x64 ∷ []) ∷ Ok (0x7F ∷ []) ∷ [] }
     ensures unread { map (read_of example_device) (key 0x0040 1 ∷ key 0x0041 0 ∷ key 0x0002 0 ∷ [])
@@ -115,7 +115,7 @@ pub fn values()
     ensures object { write_of example_device (key DATA_STORAGE 1) (0x03 ∷ []) ≡ Ok (in_state state.Download false) }
 {}
 
-/// What is answered to a request, where it is followed and where it is refused.
+/// The answer to a request, if it is carried out and if it is refused.
 pub fn answers()
     ensures read { respond example_device (request.Read 0x0041 1) ≡ (answer.ReadOk (record { items = 0x7F ∷ [] }), example_device) }
     ensures read_refused { respond example_device (request.Read 0x0042 0) ≡ (answer.ReadFault 0x80 0x11, example_device) }
@@ -126,7 +126,7 @@ pub fn answers()
     ensures no_request { (answer : List ℕ) (new : Device) → Answers example_device [] answer new → answer ≡ 0x00 ∷ [] }
 {}
 
-/// A change at the device itself sets the flag and raises the event FF91, which is told once; also at a locked device.
+/// A change at the device itself, also at a locked one, sets the flag and raises the event FF91, which is reported once.
 pub fn changes()
     ensures changed { change_of example_device (key 0x0040 0) (0x01 ∷ 0x02 ∷ []) ≡ Ok (raised (with_first (0x01 ∷ 0x02 ∷ []))) }
     ensures flag { (raised example_device).flag ≡ true }
@@ -138,13 +138,13 @@ pub fn changes()
     ensures locked { change_of (in_state state.Locked false) (key 0x0041 1) (0x7F ∷ []) ≡ Ok (raised (in_state state.Locked false)) }
 {}
 
-/// A checksum of more than 2^31 stays, and one of 2^32 and more wraps: 255 times the places 1 to 4,640, and 1 to 16,240.
+/// A checksum above 2^31 is kept, and one of 2^32 or more wraps: 255 times the places 1 to 4,640, and 1 to 16,240.
 pub fn checksums()
     ensures stays { checksum_of (alike 20 (replicate 232 0xFF)) ≡ 0xA3A6C4F0 }
     ensures wraps { checksum_of (alike 70 (replicate 232 0xFF)) ≡ 0xD46BEFC8 }
 {}
 
-/// Why a parameter does not come to others, by the first cause.
+/// The reason why a parameter is not added to others: the first cause.
 pub fn added_parameters()
     ensures reserved { map (λ index. add_fault [] (key index 9) (replicate 233 0x00)) (0x0000 ∷ 0x0002 ∷ 0x0003 ∷ [])
         ≡ Some DeviceFault.ReservedKey ∷ Some DeviceFault.ReservedKey ∷ Some DeviceFault.ReservedKey ∷ [] }
@@ -157,7 +157,7 @@ pub fn added_parameters()
         ≡ Some DeviceFault.Duplicate ∷ Some DeviceFault.TooLong ∷ [] }
 {}
 
-/// A visit with two answers is over after two, and its event comes after as many answers as it says.
+/// A visit with two answers is over after two, and its event comes after the number of answers that it says.
 pub fn visits()
     ensures at_once { (visit_of example_device (Some 2) (Some 0)).device.event ≡ true }
     ensures later { (visit_of example_device (Some 2) (Some 1)).device.event ≡ false }
@@ -168,7 +168,8 @@ pub fn visits()
     ensures once { (after_answer (visit_of example_device None (Some 0)) example_device).device.event ≡ false }
 {}
 
-/// A lost connection counts up, and the next device is there, if there is one. On the last connection there is none.
+/// A loss increments the connection and makes the next device present, if there is one. On the last connection there is
+/// none.
 pub fn connections()
     ensures counted { map (λ place. (after_loss (link_at place 7)).connection) (0 ∷ 1 ∷ []) ≡ 8 ∷ 8 ∷ [] }
     ensures next { map (λ place. (after_loss (link_at place 7)).place) (0 ∷ 1 ∷ []) ≡ 1 ∷ 1 ∷ [] }
@@ -178,7 +179,7 @@ pub fn connections()
     ensures greatest { last_connection ≡ 18446744073709551615 }
 {}
 
-/// A lost connection of a link with given answers counts up, to the last one; its page and its events are gone.
+/// A loss increments the connection of a link with given answers, up to the last one, and drops its page and its events.
 pub fn script_connections()
     ensures counted { lost (script_at 7) ≡ record (script_at 8) { page = None; events = [] } }
     ensures last { map (λ number. (lost (script_at number)).connection) (0 ∷ 18446744073709551614 ∷ 18446744073709551615 ∷ [])

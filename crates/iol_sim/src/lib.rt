@@ -1,12 +1,12 @@
-//! Simulated links to devices. `SimLink` has simulated devices with Data Storage, one after another;
-//! a call to it is answered by the device that is there, or is `Lost`. `ScriptLink` has given answers,
-//! which no device need give. The trait of every link, simulated or real, is `iol_link`'s, and is
-//! offered on here.
+//! Simulated links to devices. `SimLink` has simulated devices with Data Storage, one after another; a
+//! call to it is answered by the present device, or is `Lost`. `ScriptLink` has given answers, which
+//! need not be those of a device. The trait of every link, simulated or real, belongs to `iol_link`,
+//! and is exported here again.
 //!
-//! In reading order: `parameters` (those of a device), `refusal`, `answers`, `device` (`SimDevice`),
-//! `visit` (a device at a port for a time), `sim_link`, `script`, `laws` (of devices, and of runs of
-//! both links), `examples` (values worked out). What a device answers stands in `specs/Device.antt`,
-//! what a link does in `specs/SimLink.antt` and `specs/Script.antt`.
+//! Modules in reading order: `parameters` (those of a device), `refusal`, `answers`, `device`
+//! (`SimDevice`), `visit` (a device at a port for a time), `sim_link`, `script`, `laws` (of devices,
+//! and of runs of both links), `examples` (values worked out). `specs/Device.antt` says what a device
+//! answers, `specs/SimLink.antt` and `specs/Script.antt` say what a link does.
 #![tactic(auto)]
 
 mod answers;

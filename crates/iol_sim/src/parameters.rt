@@ -20,19 +20,19 @@ use std::alloc::Global;
 use std::marker::Model;
 use thiserror::Error;
 
-/// The most parameters that a simulated device has.
+/// The most parameters that a simulated device can have.
 pub const MOST_PARAMETERS: usize = 70;
 
-/// Why a parameter is not added. The causes are judged in this order.
+/// The reasons why a parameter is not added, in the order of the checks.
 #[derive(Clone, Copy, Debug, PartialEq, Eq, Error)]
 pub enum DeviceFault {
-    /// No parameter has this key: its Index is 0x0000, 0x0002 or 0x0003.
+    /// No parameter can have this key: its Index is 0x0000, 0x0002 or 0x0003.
     #[error("a reserved Index")]
     ReservedKey,
-    /// More than 232 octets.
+    /// The parameter has more than 232 octets.
     #[error("a parameter of more than 232 octets")]
     TooLong,
-    /// The key is there already.
+    /// There is a parameter with this key already.
     #[error("a parameter that is there already")]
     Duplicate,
     /// There are 70 parameters already.
@@ -65,7 +65,7 @@ impl Parameters {
     ghost use Rattle.indexmap.specs.IndexMap.{insert_entry};
     ghost use Rattle.iol_sim.specs.Parameters.{add_fault, checksum_of, AreParameters};
 
-    /// No parameter.
+    /// Creates parameters without an entry.
     pub fn new(alloc: Global) -> Parameters
         ensures { result ≡ [] }
     {
@@ -74,11 +74,11 @@ impl Parameters {
         }
     }
 
-    /// Adds a parameter behind the others.
+    /// Adds a parameter after the others.
     ///
     /// # Errors
-    /// The first cause, in the order of [`DeviceFault`]; the parameters are as they were. `Memory`
-    /// only where no other cause holds.
+    /// The first cause, in the order of [`DeviceFault`]; the parameters are then unchanged.
+    /// `Memory` occurs only if no other cause applies.
     pub fn add(&mut self, key: Key, octets: &[u8]) -> Result<(), DeviceFault>
         ensures added { OnOk result ((add_fault self.old key octets.now ≡ None)
             × (self.new ≡ self.old ++ (key, octets.now) ∷ [])) }
@@ -95,7 +95,7 @@ impl Parameters {
         }
     }
 
-    // Why a parameter is not added.
+    // The reason why a parameter is not added, if there is one besides memory.
     fn fault(&self, key: Key, octets: &[u8]) -> Option<DeviceFault>
         ensures range { IsKey key }
         ensures fault { result ≡ add_fault self.now key octets.now }
@@ -113,7 +113,7 @@ impl Parameters {
         }
     }
 
-    /// The octets of a parameter, if it is there.
+    /// The octets of a parameter, or `None` if there is no parameter with this key.
     pub fn get(&self, key: Key) -> Option<&[u8]>
         ensures octets { option_copied result ≡ data_at self.now key }
         ensures short { IfSome result (λ octets. length octets.now ≤ MOST_ENTRY_OCTETS) }
@@ -124,7 +124,7 @@ impl Parameters {
         }
     }
 
-    /// Gives a parameter that is there other octets.
+    /// Replaces the octets of an existing parameter.
     pub fn write(&mut self, key: Key, octets: &[u8])
         requires there { is_some (data_at self.old key) ≡ true }
         requires short { length octets.now ≤ MOST_ENTRY_OCTETS }
@@ -136,7 +136,7 @@ impl Parameters {
         }
     }
 
-    /// How many parameters there are, at most 70.
+    /// The number of parameters, at most 70.
     pub fn len(&self) -> usize
         ensures count { result ≡ length self.now }
         ensures bound { result ≤ MOST_PARAMETERS }
@@ -156,7 +156,7 @@ impl Parameters {
         (*key, data.as_slice())
     }
 
-    /// Data_Storage_Size: for each parameter 4, and its octets.
+    /// Data_Storage_Size: for each parameter, 4 plus the number of its octets.
     pub fn size(&self) -> u32
         ensures { result ≡ octets_of self.now }
     {
@@ -168,8 +168,8 @@ impl Parameters {
         octets as u32
     }
 
-    /// Parameter_Checksum: each octet of the parameters in their order, times its place, from 1 on,
-    /// modulo 2^32.
+    /// Parameter_Checksum: the sum, modulo 2^32, of each octet of the parameters in their order,
+    /// times its place, counted from 1.
     pub fn checksum(&self) -> u32
         ensures { result ≡ checksum_of self.now }
     {
@@ -183,7 +183,7 @@ impl Parameters {
         (sum % (1 << 32)) as u32
     }
 
-    /// Index_List: the keys in their order, and its end.
+    /// Index_List: the keys in their order, and the end of the list.
     pub fn index_list(&self) -> ArrayVec<u8, DATA_OCTETS>
         ensures { result.items ≡ list_octets (keys_of self.now) next.End }
     {
@@ -199,7 +199,7 @@ impl Parameters {
     }
 }
 
-// Octets, each times its place, where the first has this place.
+// The sum of the octets, each times its place; `first` is the place of the first octet.
 fn weighted(first: u64, octets: &[u8]) -> u64
     requires first { first ≤ 2 ^ 16 }
     requires short { length octets.now ≤ MOST_ENTRY_OCTETS }
@@ -215,7 +215,7 @@ fn weighted(first: u64, octets: &[u8]) -> u64
     sum
 }
 
-// The octets of a parameter, kept beside its key.
+// The octets of a parameter, as they are kept beside its key.
 fn data_of(octets: &[u8]) -> ArrayVec<u8, MOST_ENTRY_OCTETS>
     requires { length octets.now ≤ MOST_ENTRY_OCTETS }
     ensures { result.items ≡ octets.now }

@@ -1,4 +1,4 @@
-//! Why a simulated device refuses a request.
+//! The reasons why a simulated device refuses a request.
 
 ghost use Rattle.std.specs.Prelude.{◌≡◌};
 ghost use Rattle.iol_sim.specs.Refusal.{code_of};
@@ -6,20 +6,20 @@ ghost use Rattle.iol_sim.specs.Refusal.{code_of};
 /// The ErrorCode of every refusal: an error of the device's application.
 pub const DEVICE_APPLICATION_ERROR: u8 = 0x80;
 
-/// Why a simulated device refuses a request (IO-Link V1.1, ErrorTypes).
+/// The reason why a simulated device refuses a request (IO-Link V1.1, ErrorTypes).
 #[derive(Clone, Copy, PartialEq, Eq)]
 pub enum Refusal {
     /// No object has this Index and Subindex, 0x11.
     NoIndex,
     /// The Data Storage object has no such Subindex, 0x12.
     NoSubindex,
-    /// The object is not read, or not written, at all or now, 0x23.
+    /// The object cannot be read, or cannot be written, ever or in the present state, 0x23.
     AccessDenied,
-    /// An octet that is no DS_Command, or not one octet, 0x30.
+    /// The octet is not a DS_Command, or there is not exactly one octet, 0x30.
     OutOfRange,
-    /// More octets than the parameter has, 0x33.
+    /// The octets are more than the parameter has, 0x33.
     TooLong,
-    /// Fewer octets than the parameter has, 0x34.
+    /// The octets are fewer than the parameter has, 0x34.
     TooShort,
 }
 

@@ -7,10 +7,10 @@ use iol_link::{DeviceLink, ISDU_OCTETS, Lost, PAGE_OCTETS};
 use std::alloc::{AllocError, Global};
 use std::marker::Model;
 
-/// A link that answers exchanges by given octets, in order, and is then `Lost` at each. A request of
-/// more than 238 octets, which is no ISDU, is `Lost` too. It may be given a page, which can be read
-/// until the device is lost, and events, which are told in order until the device is lost; without
-/// a page, to read it is `Lost`.
+/// A link that answers exchanges with given octets, in order; after the last of them, every exchange
+/// is `Lost`. A request of more than 238 octets, which is no ISDU, is `Lost` too. It may be given a
+/// page, which can be read until the device is lost, and events, which are reported in order until
+/// the device is lost. Without a page, reading it is `Lost`.
 #[derive(Drop)]
 pub struct ScriptLink {
     answers: Vec<ArrayVec<u8, ISDU_OCTETS>>,
@@ -41,11 +41,11 @@ impl Model for ScriptLink {
 impl ScriptLink {
     ghost use Rattle.iol_sim.specs.Script.{lost};
 
-    /// A link with these answers, no page and no events, on connection 0. Room for the requests that
-    /// it will answer is made here.
+    /// Creates a link with these answers, no page and no events, on connection 0. Memory for the
+    /// requests that it will answer is allocated here.
     ///
     /// # Errors
-    /// `AllocError` where it is out of memory.
+    /// `AllocError` if it is out of memory.
     pub fn new(alloc: Global, answers: Vec<ArrayVec<u8, ISDU_OCTETS>>) -> Result<Self, AllocError>
         ensures { let left = map (λ octets. octets.items) answers.items in
             IfOk result (λ link. link ≡ record {
@@ -66,7 +66,7 @@ impl ScriptLink {
         })
     }
 
-    /// The link with this page, which can be read until the device is lost.
+    /// Returns the link with this page, which can be read until the device is lost.
     pub fn with_page(self, page: [u8; PAGE_OCTETS]) -> Self
         ensures { result ≡ record self { page = Some page } }
     {
@@ -75,7 +75,7 @@ impl ScriptLink {
         link
     }
 
-    /// The link with these events, which are told in order until the device is lost.
+    /// Returns the link with these events, which are reported in order until the device is lost.
     pub fn with_events(self, events: Vec<u16>) -> Self
         ensures { result ≡ record self { events = events.items } }
     {
@@ -84,7 +84,7 @@ impl ScriptLink {
         link
     }
 
-    /// The requests that were answered, in order.
+    /// The requests that were answered, in their order.
     pub fn requests(&self) -> &[ArrayVec<u8, ISDU_OCTETS>]
         ensures { map (λ octets. octets.items) result.now ≡ self.now.requests }
     {

@@ -1,4 +1,4 @@
-//! A simulated link: devices one after another at one port.
+//! A simulated link: several devices, one after another, at one port.
 
 ghost use Rattle.std.specs.Prelude.{◌≡◌, ◌<◌, Ok, Err, length, is_some, OnOk, OnErr, IfErr, IsSome, IfSome, slice_get, slice_set};
 ghost use Rattle.std.specs.Option.{option_copied, option_map};
@@ -13,9 +13,9 @@ use iol_types::Key;
 use std::marker::Model;
 
 /// A link to simulated devices, which visit its port one after another. A device stays until it has
-/// answered as many calls as its [`Visit`] says; the next call is `Lost`, and the next device is there.
-/// Past the last device, and on the last connection, each call is `Lost` and no event is told. A
-/// contract sees the record `Sim` of `specs/SimLink.antt`.
+/// answered the number of calls that its [`Visit`] says; the next call is `Lost`, and the next device
+/// is present. After the last device, and on the last connection, every call is `Lost` and no event is
+/// reported. A contract sees the record `Sim` of `specs/SimLink.antt`.
 #[derive(Drop)]
 pub struct SimLink {
     visits: Vec<Visit>,
@@ -37,7 +37,8 @@ impl Model for SimLink {
 impl SimLink {
     ghost use Rattle.iol_sim.specs.SimLink.{present, answering, after_loss};
 
-    /// A link to the devices of these visits, of which the first is there, on connection 0.
+    /// Creates a link to the devices of these visits, on connection 0. The device of the first visit is
+    /// present.
     pub fn new(visits: Vec<Visit>) -> SimLink
         ensures { result ≡ record { visits = visits.items; place = 0; connection = 0 } }
     {
@@ -48,14 +49,14 @@ impl SimLink {
         }
     }
 
-    /// The visits in their order, also those that are over.
+    /// The visits in their order, including those that are over.
     pub fn visits(&self) -> &[Visit]
         ensures { result.now ≡ self.now.visits }
     {
         self.visits.as_slice()
     }
 
-    /// The device of the visit at a place, from 0, also where the visit is over.
+    /// The device of the visit at a place, counted from 0, even if the visit is over.
     pub fn device(&self, place: usize) -> Option<&SimDevice>
         ensures { option_copied result
             ≡ option_map (λ visit. visit.device) (slice_get self.now.visits place) }
@@ -66,14 +67,14 @@ impl SimLink {
         }
     }
 
-    /// The place of the present visit, which is the count of visits where no device is there any more.
+    /// The place of the present visit, or the number of visits if the last one is over.
     pub fn place(&self) -> usize
         ensures { result ≡ self.now.place }
     {
         self.place
     }
 
-    /// The link on this connection.
+    /// Returns the link on this connection.
     pub fn at_connection(self, connection: u64) -> SimLink
         ensures { result ≡ record self { connection = connection } }
     {
@@ -82,11 +83,11 @@ impl SimLink {
         link
     }
 
-    /// A parameter of the device of the visit at a place, from 0, gets another value at the device
-    /// itself, as [`SimDevice::change`](crate::SimDevice::change) says.
+    /// Gives a parameter another value at the device of the visit at a place, counted from 0, as
+    /// [`SimDevice::change`](crate::SimDevice::change) says.
     ///
     /// # Errors
-    /// Those of [`SimDevice::change`](crate::SimDevice::change); the link is as it was.
+    /// Those of [`SimDevice::change`](crate::SimDevice::change); the link is then unchanged.
     pub fn change(&mut self, place: usize, key: Key, octets: &[u8]) -> Result<(), Refusal>
         requires { place < length self.old.visits }
         ensures visit { IfSome (slice_get self.old.visits place) (λ visit.
@@ -99,7 +100,7 @@ impl SimLink {
         self.visits[place].change(key, octets)
     }
 
-    // The visit whose device answers the next call, if one does.
+    // The visit whose device answers the next call, or `None` if no device does.
     fn answering(&self) -> Option<&Visit>
         ensures visit { option_copied result ≡ answering self.now }
         ensures found { is_some result ≡ is_some (answering self.now) }
@@ -114,7 +115,7 @@ impl SimLink {
         }
     }
 
-    // The device is lost, and the next one is there.
+    // Marks the present device as lost, and makes the next one present.
     fn lose(&mut self) -> Lost
         ensures { self.new ≡ after_loss self.old }
     {

@@ -1,4 +1,4 @@
-//! A device's visit at a port.
+//! The visit of a device at a port.
 
 ghost use Rattle.std.specs.Prelude.{◌≡◌, Ok, Err, OnOk, OnErr, IfErr};
 ghost use Rattle.iol_sim.specs.Device.{Device, Answers, page_of, told, after_told, lost_device, change_of};
@@ -11,9 +11,10 @@ use iol_link::{ISDU_OCTETS, PAGE_OCTETS};
 use iol_types::Key;
 use std::marker::Model;
 
-/// A device's visit at the port of a [`SimLink`](crate::SimLink): the device, how many calls it
-/// answers until it is lost, and after how many it wants an upload. A contract sees the record
-/// `VisitValue` of `specs/SimLink.antt`, which counts what is left.
+/// The visit of a device at the port of a [`SimLink`](crate::SimLink): the device, the number of
+/// calls that it answers until it is lost, and the number after which it requests an upload. A
+/// contract sees the record `VisitValue` of `specs/SimLink.antt`, which counts the calls that are
+/// left.
 #[derive(Drop)]
 pub struct Visit {
     device: SimDevice,
@@ -32,9 +33,10 @@ impl Model for Visit {
 impl Visit {
     ghost use Rattle.iol_sim.specs.SimLink.{visit_of, after_answer, has_answer, raised_in_time};
 
-    /// A visit of this device. `answers` is how many calls, `read_page` and `exchange`, it answers
-    /// before it is lost: 0 means at once, `None` never. `event` is after how many answered calls it
-    /// wants an upload: at 0 it does from its arrival, at `None` it never does.
+    /// Creates a visit of this device. `answers` is the number of calls, `read_page` and `exchange`,
+    /// that it answers before it is lost: 0 means that it is lost at once, `None` that it never is.
+    /// `event` is the number of answered calls after which it requests an upload: 0 means from its
+    /// arrival, `None` means never.
     pub fn new(device: SimDevice, answers: Option<u64>, event: Option<u64>) -> Visit
         ensures { result ≡ visit_of device answers event }
     {
@@ -54,7 +56,7 @@ impl Visit {
         &self.device
     }
 
-    // The device wants an upload where that is now.
+    // Makes the device request an upload if it is time.
     fn raise_in_time(&mut self)
         ensures { self.new ≡ raised_in_time self.old }
     {
@@ -73,14 +75,14 @@ impl Visit {
         self.raise_in_time();
     }
 
-    /// Whether the device answers one more call.
+    /// Whether the device answers another call.
     pub fn has_answer(&self) -> bool
         ensures { result ≡ has_answer self.now }
     {
         !is_now(self.answers)
     }
 
-    /// The device's page, in a call that it answers.
+    /// The page of the device. It counts as an answered call.
     pub fn page(&mut self) -> [u8; PAGE_OCTETS]
         ensures page { result ≡ page_of self.old.device }
         ensures counted { self.new ≡ after_answer self.old self.old.device }
@@ -90,7 +92,7 @@ impl Visit {
         page
     }
 
-    /// The device's answer to a request, in a call that it answers.
+    /// The answer of the device to a request. It counts as an answered call.
     pub fn exchange(&mut self, request: &[u8]) -> ArrayVec<u8, ISDU_OCTETS>
         ensures { (device : Device) × Answers self.old.device request.now result.items device
             × (self.new ≡ after_answer self.old device) }
@@ -100,7 +102,8 @@ impl Visit {
         answer
     }
 
-    /// The device's event, where one is pending, which is then told.
+    /// Takes the pending event of the device and returns its EventCode, or `None` if no event is
+    /// pending.
     pub fn take_event(&mut self) -> Option<u16>
         ensures event { result ≡ told self.old.device }
         ensures told { self.new ≡ record self.old { device = after_told self.old.device } }
@@ -108,17 +111,17 @@ impl Visit {
         self.device.take_event()
     }
 
-    /// The device is lost.
+    /// Marks the device as lost.
     pub fn lose(&mut self)
         ensures { self.new ≡ record self.old { device = lost_device self.old.device } }
     {
         self.device.lose();
     }
 
-    /// A parameter gets another value at the device itself, as [`SimDevice::change`] says.
+    /// Gives a parameter another value at the device itself, as [`SimDevice::change`] says.
     ///
     /// # Errors
-    /// Those of [`SimDevice::change`]; the device is as it was.
+    /// Those of [`SimDevice::change`]; the device is then unchanged.
     pub fn change(&mut self, key: Key, octets: &[u8]) -> Result<(), Refusal>
         ensures changed { OnOk result (change_of self.old.device key octets.now ≡ Ok self.new.device) }
         ensures rest { self.new ≡ record self.old { device = self.new.device } }
@@ -129,14 +132,14 @@ impl Visit {
     }
 }
 
-// Whether no call is left until then.
+// Whether no call is left until this point.
 fn is_now(calls: Option<u64>) -> bool
     ensures { result ≡ is_now calls }
 {
     calls == Some(0)
 }
 
-// One answered call fewer is left.
+// Counts one answered call; at 0 the number stays.
 fn one_fewer(calls: Option<u64>) -> Option<u64>
     ensures { result ≡ one_fewer calls }
 {

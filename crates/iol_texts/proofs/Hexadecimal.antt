@@ -21,7 +21,7 @@ digits_of_zero (suc count) =
     ap (λ (text : List ℕ). text ++ 48 ∷ []) (digits_of_zero count) ∙ sym (replicate_next count 48)
     ∙ ap (λ (zeros : ℕ). replicate zeros 48) (add-one count)
 
--- a text behind zeros that make it so long
+-- a text after zeros that fill it up to this length
 abbrev filled : ℕ → List ℕ → List ℕ
 filled count text = replicate (count - length text) 48 ++ text
 
@@ -29,7 +29,7 @@ filled_by : (count zeros : ℕ) (text : List ℕ) → count ≡ zeros + length t
 filled_by count zeros text is =
     let same : count - length text ≡ zeros = omega arith in ap (λ (k : ℕ). replicate k 48 ++ text) same
 
--- the digits of a number before a text, behind zeros that make them so many
+-- the digits of a number before a text, after zeros that fill them up to `k + 1` digits
 filled_digits : (k most n : ℕ) (text : List ℕ) → k < most → n < 16 ^ suc k
     → filled (suc k + length text) (digits_onto most 16 true n text) ≡ hex_digits (suc k) n ++ text
 unfolding hex_digits
@@ -56,7 +56,7 @@ filled_digits (suc k) (suc most) n text few fits =
         ap (λ (count : ℕ). filled count (digits_onto most 16 true (n / 16) (digit ∷ text))) long ∙ others
         ∙ sym (append_assoc (hex_digits (suc k) (n / 16)) (digit ∷ []) text)
 
--- a text of at most so many digits, in a hole of this width
+-- a hole of this width fills a text up with zeros
 hole_filled : (k n : ℕ) (text : List ℕ) → filled (suc k + 0) text ≡ hex_digits (suc k) n ++ []
     → padded_integral (format_spec 32 0 4 (suc k) (2 ^ 64 - 1)) false [] text ≡ hex_digits (suc k) n
 unfolding padded_integral char_count

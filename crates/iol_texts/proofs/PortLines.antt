@@ -1,4 +1,4 @@
--- The lines of one entry more, and of one port more.
+-- The lines with one more entry, and with one more port.
 use Rattle.std.proofs.Common.{◌≡◌, refl, ◌+◌, ◌-◌, ◌≤◌, ℕ, zero, suc, List, [], ◌∷◌, ◌++◌, Option, None, take, slice_get, sym, ap, ◌∙◌}
 use Rattle.std.proofs.Common.{append_assoc, append-nil, add-one, arith}
 use Rattle.std.specs.Prelude.{Bool, true, nat_le, if◌then◌else◌}
@@ -9,11 +9,11 @@ use Rattle.iol_types.specs.DataSet.{Entry}
 use Rattle.iol_types.specs.State.{Port, State, port_numbered}
 use Rattle.iol_texts.specs.Recovered.{entry_line, port_text, port_lines}
 
--- the line of an entry that may be there
+-- the line of an entry, if there is one
 abbrev entry_text : Option Entry → List ℕ
 entry_text entry = option_map_or entry_line entry []
 
--- the lines of entries up to a place, and of that at it
+-- the lines of the entries before a place, and that of the entry at it
 pub entries_next : (entries : List Entry) (place : ℕ)
     → flat_map entry_line (take place entries) ++ option_map_or entry_line (slice_get entries place) []
     ≡ flat_map entry_line (take (place + 1) entries)
@@ -28,11 +28,11 @@ entries_next entries place = behind entries place ∙ ap (λ (i : ℕ). flat_map
         append_assoc (entry_line entry) (flat_map entry_line (take place entries)) (entry_text (slice_get entries place))
         ∙ ap (λ (text : List ℕ). entry_line entry ++ text) (behind entries place)
 
--- the lines of a port that may be there
+-- the lines of a port, if there is one
 abbrev text_of : ℕ → Option Port → List ℕ
 text_of number port = option_map_or (port_text number) port []
 
--- the lines of ports up to a place, and of that at it
+-- the lines of the ports before a place, and those of the port at it
 ports_behind : (first place : ℕ) (ports : List Port)
     → port_lines first (take place ports) ++ text_of (first + place) (slice_get ports place) ≡ port_lines first (take (suc place) ports)
 ports_behind first zero [] = refl
@@ -45,7 +45,7 @@ ports_behind first (suc place) (port ∷ ports) =
     ∙ ap (λ (n : ℕ). port_text first port ++ (port_lines (first + 1) (take place ports) ++ text_of n (slice_get ports place))) same
     ∙ ap (λ (text : List ℕ). port_text first port ++ text) (ports_behind (first + 1) place ports)
 
--- the lines of the ports of a state before a number, and of that with this number
+-- the lines of the ports of a state before a number, and those of the port with this number
 pub ports_next : (number : ℕ) (state : State) → 1 ≤ number
     → port_lines 1 (take (number - 1) state) ++ option_map_or (port_text number) (port_numbered state number) []
     ≡ port_lines 1 (take number state)

@@ -10,7 +10,7 @@ set_error additional =
     else if additional == 0x82 then codes ", application not ready"
     else []
 
--- the errors of a value; the others are those of a set (standard, ISDU error codes)
+-- the errors of a value; any other code is looked up among those of a set (standard, ISDU error codes)
 abbrev pub value_error : ℕ → List ℕ
 value_error additional =
     if additional == 0x30 then codes ", parameter value out of range"
@@ -20,7 +20,7 @@ value_error additional =
     else if additional == 0x34 then codes ", parameter length underrun"
     else set_error additional
 
--- the errors of a service; the others are those of a value (standard, ISDU error codes)
+-- the errors of a service; any other code is looked up among those of a value (standard, ISDU error codes)
 abbrev pub service_error : ℕ → List ℕ
 service_error additional =
     if additional == 0x20 then codes ", service temporarily not available"
@@ -30,7 +30,7 @@ service_error additional =
     else if additional == 0x36 then codes ", function temporarily not available"
     else value_error additional
 
--- the errors of an object; the others are those of a service (standard, ISDU error codes)
+-- the errors of an object; any other code is looked up among those of a service (standard, ISDU error codes)
 abbrev pub object_error : ℕ → List ℕ
 object_error additional =
     if additional == 0x00 then codes ", device application error"
@@ -39,14 +39,14 @@ object_error additional =
     else if additional == 0x23 then codes ", access denied"
     else service_error additional
 
--- the name of an ErrorType behind a comma, or nothing where the standard has none (standard, ISDU error codes)
+-- the name of an ErrorType after a comma, or nothing if the standard has none (standard, ISDU error codes)
 abbrev pub error_name : ℕ → ℕ → List ℕ
 error_name error additional =
     if error == 0x80 then object_error additional
     else if error == 0x81 then codes ", vendor specific"
     else []
 
--- an ErrorCode and an AdditionalCode, and what they stand for (format, Explained runs)
+-- an ErrorCode and an AdditionalCode, and the name of the error, if any (format, Explained runs)
 abbrev pub error_text : ℕ → ℕ → List ℕ
 error_text error additional =
     codes "ErrorCode " ++ (hex_of error ++ (codes " " ++ (hex_of additional ++ error_name error additional)))

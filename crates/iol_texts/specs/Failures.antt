@@ -5,14 +5,14 @@ use Rattle.iol_link.specs.declared.validation.IdentFault.TheVariants as ident
 use Rattle.iol_core.specs.Statuses as trace
 use Rattle.iol_texts.specs.ErrorTypes.{error_text}
 
--- why a device is not the one that its port wants, and what to do (format, Explained runs)
+-- why a device is not the one that its port requires, and what to do (format, Explained runs)
 abbrev pub mismatch_words : IdentFault → List ℕ
 mismatch_words ident.Vendor = codes "another VendorID than is configured: connect the configured device, or configure this one"
 mismatch_words ident.Device = codes "another DeviceID than is configured: connect the configured device, or configure this one"
 mismatch_words ident.Revision = codes "a RevisionID below 11, V1.1: connect a device of V1.1, or configure validation 00 or 01"
 mismatch_words ident.NoIsdu = codes "the device supports no ISDUs: connect one that does, or configure validation 00 to 02"
 
--- why a port has failed, and what to do, but for the octets of a refusal (format, Explained runs)
+-- why a port has failed, and what to do, without the octets of a refusal (format, Explained runs)
 abbrev pub failure_cause : trace.Failure → List ℕ
 failure_cause (trace.Refused error additional) = codes "the device refused a request"
 failure_cause trace.Unexpected = codes "the device answered something else than was asked: check the device, and connect it again"

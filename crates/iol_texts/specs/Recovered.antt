@@ -9,7 +9,7 @@ use Rattle.iol_types.specs.State.{Stored, Port, State}
 use Rattle.iol_types.specs.declared.config.PortConfig.{PortConfig}
 use Rattle.iol_texts.specs.Texts.{hex_of, hex_digits}
 
--- the octets of a parameter behind a space, without spaces between them; nothing where there are none (format, Texts)
+-- the octets of a parameter after a space, without spaces between them, or nothing if there are none (format, Texts)
 abbrev pub octets_text : List ℕ → List ℕ
 octets_text [] = []
 octets_text (octet ∷ octets) = codes " " ++ flat_map hex_of (octet ∷ octets)
@@ -23,25 +23,25 @@ entry_line entry =
 abbrev pub entry_lines : Stored → List ℕ
 entry_lines stored = flat_map entry_line stored.set.entries
 
--- a label behind its name and between quotation marks, and nothing where it is empty (format, Texts)
+-- a label after its name and in quotation marks, or nothing if it is empty (format, Texts)
 abbrev pub label_text : List ℕ → List ℕ
 label_text [] = []
 label_text (octet ∷ octets) = codes " label \"" ++ (octet ∷ octets ++ codes "\"")
 
--- a configuration, each number behind its name (format, Texts)
+-- a configuration, each number after its name (format, Texts)
 abbrev pub config_text : PortConfig → List ℕ
 config_text config =
     codes "mode " ++ (decimal (mode_octet config.mode) ++ (codes " validation " ++ (decimal (validation_octet config.validation)
     ++ (codes " vendor " ++ (hex_digits 4 config.vendor ++ (codes " device " ++ hex_digits 6 config.device))))))
 
--- a configuration, its numbers alone (format, Texts)
+-- a configuration, only its numbers (format, Texts)
 abbrev pub config_numbers : PortConfig → List ℕ
 config_numbers config =
     decimal (mode_octet config.mode) ++ (codes " " ++ (decimal (validation_octet config.validation) ++ (codes " "
     ++ (hex_digits 4 config.vendor ++ (codes " " ++ hex_digits 6 config.device)))))
 
--- what is said of a parameter set of a port: how many entries it has, what they count, its checksum, and the
--- configuration that it was taken under (format, Texts)
+-- the text about a parameter set of a port: the number of its entries, the octets that they count, its checksum, and the
+-- configuration under which it was taken (format, Texts)
 abbrev pub set_text : Option Stored → List ℕ
 set_text None = codes "none"
 set_text (Some stored) =
@@ -64,11 +64,11 @@ abbrev pub port_text : ℕ → Port → List ℕ
 port_text number port =
     port_line number port ++ (option_map_or entry_lines port.stored [] ++ option_map_or previous_lines port.previous [])
 
--- the lines of ports, of which the first has this number (format, Texts)
+-- the lines of ports, the first of which has this number (format, Texts)
 abbrev pub port_lines : ℕ → List Port → List ℕ
 port_lines number [] = []
 port_lines number (port ∷ ports) = port_text number port ++ port_lines (number + 1) ports
 
--- the lines of a state after so many commands (format, Texts)
+-- the lines of a state after `number` commands (format, Texts)
 abbrev pub recovered_text : ℕ → State → List ℕ
 recovered_text number state = codes "recovered " ++ (decimal number ++ (codes "\n" ++ port_lines 1 state))

@@ -10,12 +10,12 @@ use Rattle.iol_texts.specs.declared.row.Row.{Row}
 use Rattle.iol_texts.specs.declared.row.Row.TheVariants.{NotKept, Locked, NothingStored, FlagSet, SameSet, OtherSet}
 use Rattle.iol_texts.specs.declared.row.Row.TheVariants.{NothingToRestore, SameRestored, OtherRestored}
 
--- the line where the flag does not count, by whether the device has the set (own)
+-- the line that applies if the flag does not matter, by whether the device has the stored set (own)
 abbrev pub same_or_other : Bool → Bool → Row
 same_or_other backs_up_ is_same =
     if backs_up_ then (if is_same then SameSet else OtherSet) else if is_same then SameRestored else OtherRestored
 
--- the line that fits first (format, What is done with a device's parameters)
+-- the first line that applies (format, What is done with a device's parameters)
 abbrev pub row_of : Validation → State → Bool → ℕ → Option ℕ → Row
 row_of validation state flag checksum stored =
     if not (restores validation) then NotKept
@@ -37,7 +37,7 @@ decision_of NothingToRestore = decision.ReadyEmpty
 decision_of SameRestored = decision.Ready
 decision_of OtherRestored = decision.Download
 
--- a line in words (format, Explained runs)
+-- the words for a line (format, Explained runs)
 abbrev pub row_words : Row → List ℕ
 row_words NotKept = codes "validation 00 to 02: nothing is done"
 row_words Locked = codes "validation 03 or 04, the device's Data Storage is locked: nothing is done"

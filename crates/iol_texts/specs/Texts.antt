@@ -12,16 +12,16 @@ use Rattle.iol_core.specs.Statuses as trace
 abbrev pub hex_of : ℕ → List ℕ
 hex_of octet = digit_glyph true (octet / 16) ∷ digit_glyph true (octet % 16) ∷ []
 
--- the last so many hexadecimal digits of a number, upper case (format, Texts)
+-- the last `count` hexadecimal digits of a number, upper case (format, Texts)
 unfoldable pub hex_digits : ℕ → ℕ → List ℕ
 hex_digits zero number = []
 hex_digits (suc count) number = hex_digits count (number / 16) ++ digit_glyph true (number % 16) ∷ []
 
--- octets in hexadecimal, each behind a space (format, Texts)
+-- octets in hexadecimal, each after a space (format, Texts)
 abbrev pub spaced : List ℕ → List ℕ
 spaced octets = flat_map (λ octet. codes " " ++ hex_of octet) octets
 
--- the name of why a command does not pass (format, Texts)
+-- the name of the reason why a command does not pass (format, Texts)
 abbrev pub command_name : CommandFault → List ℕ
 command_name fault.UnknownPort = codes "UnknownPort"
 command_name fault.RevisionSpent = codes "RevisionSpent"
@@ -30,21 +30,21 @@ command_name fault.StaleRevision = codes "StaleRevision"
 command_name fault.WrongDevice = codes "WrongDevice"
 command_name fault.NoPrevious = codes "NoPrevious"
 
--- the name of why a command is refused (format, Texts)
+-- the name of the reason why a command is refused (format, Texts)
 abbrev pub refusal_name : trace.Refusal → List ℕ
 refusal_name trace.Stopped = codes "Stopped"
 refusal_name (trace.Command cause) = command_name cause
 refusal_name trace.QueueFull = codes "QueueFull"
 refusal_name trace.Exhausted = codes "Exhausted"
 
--- the name of what is not as a port wants it (format, Texts)
+-- the name of what does not fit the port (format, Texts)
 abbrev pub mismatch_name : IdentFault → List ℕ
 mismatch_name ident.Vendor = codes "vendor"
 mismatch_name ident.Device = codes "device"
 mismatch_name ident.Revision = codes "revision"
 mismatch_name ident.NoIsdu = codes "isdu"
 
--- the name of why a port has failed (format, Texts)
+-- the name of the reason why a port has failed (format, Texts)
 abbrev pub failure_name : trace.Failure → List ℕ
 failure_name (trace.Refused error additional) = codes "Refused"
 failure_name trace.Unexpected = codes "Unexpected"
@@ -65,7 +65,7 @@ failure_name trace.Same = codes "Same"
 failure_name trace.Exhausted = codes "Exhausted"
 failure_name trace.NoSet = codes "Empty"
 
--- the words for a failure: its name, and the two octets of a refusal behind it (format, Texts)
+-- the words for a failure: its name, and after it the two octets of a refusal (format, Texts)
 abbrev pub failure_text : trace.Failure → List ℕ
 failure_text (trace.Refused error additional) = codes "Refused " ++ (hex_of error ++ (codes " " ++ hex_of additional))
 failure_text failure = failure_name failure

@@ -8,7 +8,7 @@ ghost use Rattle.iol_texts.specs.Recovered.{octets_text, entry_line};
 use iol_types::{DataSet, Key};
 use std::fmt;
 
-// The lines of the parameters of a set.
+// Writes the lines of the parameters of a set.
 pub(crate) fn write_entries<W: fmt::Write>(f: &mut fmt::Formatter<W>, set: &DataSet) -> fmt::Result
     ensures { WritesOnOk W.write_str_gives f.old result (flat_map entry_line set.now.entries) f.new }
 {
@@ -18,7 +18,7 @@ pub(crate) fn write_entries<W: fmt::Write>(f: &mut fmt::Formatter<W>, set: &Data
     Ok(())
 }
 
-// The line of the parameter at a place, if it is there.
+// Writes the line of the parameter at a place, if there is one.
 fn write_entry_at<W: fmt::Write>(
     f: &mut fmt::Formatter<W>,
     set: &DataSet,
@@ -32,7 +32,7 @@ fn write_entry_at<W: fmt::Write>(
     }
 }
 
-// The line of a parameter.
+// Writes the line of a parameter.
 fn write_entry<W: fmt::Write>(f: &mut fmt::Formatter<W>, key: Key, octets: &[u8]) -> fmt::Result
     ensures { WritesOnOk W.write_str_gives f.old result (entry_line (key, octets.now)) f.new }
 {
@@ -41,7 +41,7 @@ fn write_entry<W: fmt::Write>(f: &mut fmt::Formatter<W>, key: Key, octets: &[u8]
     f.write_str("\n")
 }
 
-// A space and the octets, or nothing where there are none.
+// Writes a space and the octets, or nothing if there are none.
 fn write_octets<W: fmt::Write>(f: &mut fmt::Formatter<W>, octets: &[u8]) -> fmt::Result
     ensures { WritesOnOk W.write_str_gives f.old result (octets_text octets.now) f.new }
 {

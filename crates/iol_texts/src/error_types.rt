@@ -4,7 +4,7 @@ ghost use Rattle.iol_texts.specs.ErrorTypes.{error_name, object_error, service_e
 
 use std::fmt;
 
-/// An ErrorCode and an AdditionalCode, with the name of what they stand for, if the standard names it.
+/// An ErrorCode and an AdditionalCode. They are printed with the name of the error, if the standard has one.
 #[derive(Clone, Copy)]
 pub struct ErrorType {
     pub error: u8,
@@ -26,7 +26,7 @@ impl fmt::Display for ErrorType {
     }
 }
 
-// The name of an ErrorType behind a comma, or nothing where the standard has none.
+// The name of an ErrorType after a comma, or nothing if the standard has none.
 fn error_name(error: u8, additional: u8) -> &'static str
     ensures { result.now ≡ error_name error additional }
 {
@@ -37,7 +37,7 @@ fn error_name(error: u8, additional: u8) -> &'static str
     }
 }
 
-// The errors of an object; the others are those of a service.
+// The errors of an object; any other code is looked up among those of a service.
 fn object_error(additional: u8) -> &'static str
     ensures { result.now ≡ object_error additional }
 {
@@ -50,7 +50,7 @@ fn object_error(additional: u8) -> &'static str
     }
 }
 
-// The errors of a service; the others are those of a value.
+// The errors of a service; any other code is looked up among those of a value.
 fn service_error(additional: u8) -> &'static str
     ensures { result.now ≡ service_error additional }
 {
@@ -64,7 +64,7 @@ fn service_error(additional: u8) -> &'static str
     }
 }
 
-// The errors of a value; the others are those of a set.
+// The errors of a value; any other code is looked up among those of a set.
 fn value_error(additional: u8) -> &'static str
     ensures { result.now ≡ value_error additional }
 {

@@ -1,4 +1,5 @@
-//! Names, words and lines, worked out by the check: a text that is wrong in a definition and in the code alike is refused here.
+//! Worked examples of names, words and lines, evaluated by the check: they catch a text that is wrong both in a definition and in
+//! the code.
 ghost use Rattle.std.specs.Prelude.{◌≡◌, [], ◌∷◌, ◌++◌, map, replicate, codes, true, false, Some, None};
 ghost use Rattle.iol_types.specs.declared.command.CommandFault.TheVariants as fault;
 ghost use Rattle.iol_types.specs.Examples.{example_config, example_port, renewed_port, port_of};
@@ -73,13 +74,13 @@ pub fn port_lines()
         ≡ codes "port 1 revision 2 mode 1 validation 3 vendor 01F4 device 00ABCD label \"Pump 3\" set none\n" }
 {}
 
-/// A state of two ports: the parameters of a port stand behind its own line.
+/// A state of two ports: the parameters of a port come after its own line.
 pub fn states()
     ensures { recovered_text 10 (example_port ∷ port_of example_config 7 ∷ []) ≡ codes "recovered 10\n" ++ port_line 1 example_port
         ++ codes "entry 0040.00 0A64\nentry 0041.01 7F\n" ++ port_line 2 (port_of example_config 7) }
 {}
 
-/// The lines of a port with a previous set: that stands behind the parameters of the present one.
+/// The lines of a port with a previous set, which comes after the parameters of the present one.
 pub fn previous_sets()
     ensures { port_text 1 renewed_port ≡ codes "port 1 revision 1 mode 1 validation 3 vendor 01F4 device 00ABCD set "
         ++ codes "2 entries 11 octets checksum 00000252 under 1 3 01F4 00ABCD\nentry 0040.00 0A64\nentry 0041.01 80\n"
@@ -127,7 +128,7 @@ pub fn words_of_refusals()
         ∷ codes "no command number is left: format a new disk" ∷ [] }
 {}
 
-/// Why a device is not the one that its port wants, and what to do.
+/// Why a device is not the one that its port requires, and what to do.
 pub fn words_of_mismatches()
     ensures { map (mismatch_words) (ident.Vendor ∷ ident.Device ∷ ident.Revision ∷ ident.NoIsdu ∷ [])
         ≡ codes "another VendorID than is configured: connect the configured device, or configure this one"

@@ -33,7 +33,7 @@ impl fmt::Display for FailureWords {
     }
 }
 
-// Why a port has failed, and what to do, but for the octets of a refusal.
+// Why a port has failed, and what to do, without the octets of a refusal.
 fn failure_cause(fault: PortFault) -> &'static str
     ensures { result.now ≡ failure_cause (failure_told fault) }
 {
@@ -72,7 +72,7 @@ fn failure_cause(fault: PortFault) -> &'static str
     }
 }
 
-// Why a device is not the one that its port wants, and what to do.
+// Why a device is not the one that its port requires, and what to do.
 pub(crate) fn mismatch_words(fault: IdentFault) -> &'static str
     ensures { result.now ≡ mismatch_words fault }
 {

@@ -1,11 +1,14 @@
 //! Names, words and lines that several commands print: those of statuses and refusals, of a port and of a state.
 //!
-//! In come values; out come texts, by Display or as a name. A name is one word, as a trace has it; words say what is meant and what to
-//! do.
+//! It takes values and returns texts, by Display or as a name. A name is one word, as in a trace; words say what is meant and what
+//! to do.
 //!
-//! Modules in reading order: `names` and `status_text`, names of refusals and statuses; `octets`, `entry_text` and `state_text`, lines
-//! of octets, of parameters, and of ports; `refusals`, `status_words` with `failure_words`, and `error_types`, what they mean;
-//! `row`, by which line of the table of decisions a port decides; `examples`, texts worked out.
+//! Modules in reading order:
+//! - `names` and `status_text` have the names of refusals and statuses.
+//! - `octets`, `entry_text` and `state_text` have the lines of octets, of parameters, and of ports.
+//! - `refusals`, `status_words` with `failure_words`, and `error_types` have the words for what they mean.
+//! - `row` finds the line of the table of decisions by which a port decides.
+//! - `examples` has worked examples of texts.
 #![tactic(auto)]
 
 mod entry_text;

@@ -1,4 +1,4 @@
-//! The names in a trace: why a command is refused, what is not as a port wants it, and why a port has failed
+//! The names in a trace: why a command is refused, why a device does not fit its port, and why a port has failed
 //! (docs/FORMATS.md, "Texts").
 ghost use Rattle.std.specs.Prelude.{◌≡◌};
 ghost use Rattle.iol_core.specs.Telling.{refusal_of};
@@ -10,7 +10,7 @@ use iol_link::IdentFault;
 use iol_port::PortFault;
 use iol_types::CommandFault;
 
-/// What the trace calls a refusal.
+/// The name of a refusal in the trace.
 pub fn refusal_name(fault: SubmitFault) -> &'static str
     ensures { result.now ≡ refusal_name (refusal_of fault) }
 {
@@ -22,7 +22,7 @@ pub fn refusal_name(fault: SubmitFault) -> &'static str
     }
 }
 
-// What the trace calls the fault of a command that does not pass.
+// The name in the trace of the fault of a command that does not pass.
 fn command_name(cause: CommandFault) -> &'static str
     ensures { result.now ≡ command_name cause }
 {
@@ -36,7 +36,7 @@ fn command_name(cause: CommandFault) -> &'static str
     }
 }
 
-// What is not as the port wants it.
+// The name of what does not fit the port.
 pub(crate) fn mismatch_name(fault: IdentFault) -> &'static str
     ensures { result.now ≡ mismatch_name fault }
 {
@@ -48,7 +48,7 @@ pub(crate) fn mismatch_name(fault: IdentFault) -> &'static str
     }
 }
 
-// What the trace calls the fault of a port.
+// The name of a port's fault in the trace.
 pub(crate) fn failure_name(fault: PortFault) -> &'static str
     ensures { result.now ≡ failure_name (failure_told fault) }
 {
@@ -70,7 +70,7 @@ pub(crate) fn failure_name(fault: PortFault) -> &'static str
         PortFault::Taken => "Taken",
         PortFault::Same => "Same",
         PortFault::Exhausted => "Exhausted",
-        // As a download names it.
+        // A download uses the same name.
         PortFault::NoSet => "Empty",
     }
 }

@@ -4,7 +4,7 @@ ghost use Rattle.iol_texts.specs.Texts.{spaced};
 
 use std::fmt;
 
-/// Octets in hexadecimal, two digits each in upper case, each behind a space.
+/// Octets in hexadecimal: two digits each, in upper case, after a space.
 #[derive(Drop)]
 pub struct Spaced<'a>(pub &'a [u8]);
 
@@ -19,7 +19,7 @@ impl fmt::Display for Spaced<'_> {
     }
 }
 
-// Octets, each behind a space.
+// Writes octets, each after a space.
 fn write_octets<W: fmt::Write>(f: &mut fmt::Formatter<W>, octets: &[u8]) -> fmt::Result
     ensures { WritesOnOk W.write_str_gives f.old result (spaced octets.now) f.new }
 {

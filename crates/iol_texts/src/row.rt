@@ -30,7 +30,7 @@ pub enum Row {
     OtherRestored,
 }
 
-/// The line that fits.
+/// The line of the table that applies.
 pub fn row_of(
     validation: Validation,
     state: State,
@@ -39,7 +39,7 @@ pub fn row_of(
     stored: Option<u32>,
 ) -> Row
     ensures row { result ≡ row_of validation state flag checksum stored }
-    // It is that of what a port decides.
+    // Its decision is the one that a port makes.
     ensures decides { decision_of result ≡ decide validation state flag checksum stored }
 {
     let backs_up = matches!(validation, Validation::BackupAndRestore);
@@ -57,7 +57,7 @@ pub fn row_of(
     }
 }
 
-// The line where the flag does not count, by whether the device has the set.
+// The line that applies if the flag does not matter, by whether the device has the stored set.
 fn same_or_other(backs_up: bool, is_same: bool) -> Row
     ensures { result ≡ same_or_other backs_up is_same }
 {
@@ -70,7 +70,7 @@ fn same_or_other(backs_up: bool, is_same: bool) -> Row
     }
 }
 
-// A line in words.
+// The words for a line.
 pub(crate) fn row_words(row: Row) -> &'static str
     ensures { result.now ≡ row_words row }
 {

@@ -10,7 +10,7 @@ use crate::entry_text::write_entries;
 use iol_types::{Label, MasterState, PortConfig, PortId, PortState, StoredSet};
 use std::fmt;
 
-// How many commands were recovered, and the state after them.
+// The number of commands that were recovered, and the state after them.
 #[derive(Drop)]
 pub struct Recovered {
     pub number: u64,
@@ -28,7 +28,7 @@ impl fmt::Display for Recovered {
     }
 }
 
-// The lines of a recovered state, below that of how many commands it is after.
+// Writes the line with the number of commands, and below it the lines of the state after them.
 fn write_recovered<W: fmt::Write>(
     f: &mut fmt::Formatter<W>,
     number: u64,
@@ -40,7 +40,7 @@ fn write_recovered<W: fmt::Write>(
     write_ports(f, state)
 }
 
-// The lines of all ports of a state.
+// Writes the lines of all ports of a state.
 fn write_ports<W: fmt::Write>(f: &mut fmt::Formatter<W>, state: &MasterState) -> fmt::Result
     ensures { WritesOnOk W.write_str_gives f.old result (port_lines 1 state.now) f.new }
 {
@@ -50,7 +50,7 @@ fn write_ports<W: fmt::Write>(f: &mut fmt::Formatter<W>, state: &MasterState) ->
     Ok(())
 }
 
-// The lines of the port with this number, 1 to 32, if it is there.
+// Writes the lines of the port with this number, 1 to 32, if it exists.
 fn write_port_numbered<W: fmt::Write>(
     f: &mut fmt::Formatter<W>,
     state: &MasterState,
@@ -65,7 +65,7 @@ fn write_port_numbered<W: fmt::Write>(
     }
 }
 
-// The lines of the port with this number, if it is there.
+// Writes the lines of the port with this number, if it exists.
 fn write_port<W: fmt::Write>(
     f: &mut fmt::Formatter<W>,
     state: &MasterState,
@@ -86,12 +86,12 @@ fn write_port<W: fmt::Write>(
     }
 }
 
-/// A port with its number, as `show` prints it: its line, that of each parameter of its set, and those of its previous set.
+/// A port with its number, as `show` prints it: its line, a line for each parameter of its set, and the lines of its previous set.
 #[derive(Clone, Copy)]
 pub struct PortText<'a> {
     /// Its number.
     pub port: PortId,
-    /// What is durable of it.
+    /// Its durable state.
     pub state: &'a PortState,
 }
 
@@ -108,7 +108,7 @@ impl fmt::Display for PortText<'_> {
     }
 }
 
-// The line of a port.
+// Writes the line of a port.
 fn write_port_line<W: fmt::Write>(
     f: &mut fmt::Formatter<W>,
     number: u8,
@@ -122,7 +122,7 @@ fn write_port_line<W: fmt::Write>(
     writeln!(f, " set {}", SetText(port.stored()))
 }
 
-// The lines of the parameters of the set that is stored for a port, if one is.
+// Writes the lines of the parameters of a port's stored set, if it has one.
 fn write_stored<W: fmt::Write>(f: &mut fmt::Formatter<W>, port: &PortState) -> fmt::Result
     ensures { WritesOnOk W.write_str_gives f.old result (option_map_or entry_lines port.now.stored []) f.new }
 {
@@ -132,7 +132,7 @@ fn write_stored<W: fmt::Write>(f: &mut fmt::Formatter<W>, port: &PortState) -> f
     }
 }
 
-// The lines of the previous set of a port, if it has one.
+// Writes the lines of the previous set of a port, if it has one.
 fn write_previous<W: fmt::Write>(f: &mut fmt::Formatter<W>, port: &PortState) -> fmt::Result
     ensures { WritesOnOk W.write_str_gives f.old result (option_map_or previous_lines port.now.previous []) f.new }
 {
@@ -145,7 +145,7 @@ fn write_previous<W: fmt::Write>(f: &mut fmt::Formatter<W>, port: &PortState) ->
     }
 }
 
-// A configuration, each number behind its name.
+// A configuration, each number after its name.
 #[derive(Drop)]
 struct Named(PortConfig);
 
@@ -166,7 +166,7 @@ impl fmt::Display for Named {
     }
 }
 
-// The label of a port, and nothing where it is empty.
+// The label of a port, or nothing if it is empty.
 #[derive(Drop)]
 struct Called<'a>(&'a Label);
 
@@ -184,7 +184,7 @@ impl fmt::Display for Called<'_> {
     }
 }
 
-// What is said of a parameter set of a port.
+// The text about a parameter set of a port, which may have none.
 #[derive(Drop)]
 struct SetText<'a>(Option<&'a StoredSet>);
 

@@ -9,7 +9,7 @@ use crate::row::{Row, row_words};
 use iol_port::PortStatus;
 use std::fmt;
 
-/// What the status of a port means and what to do.
+/// What the status of a port means, and what to do.
 #[derive(Clone, Copy)]
 pub struct StatusWords {
     pub status: PortStatus,
@@ -29,7 +29,7 @@ impl fmt::Display for StatusWords {
     }
 }
 
-// The words for a status, by the line of the table, where that is known.
+// Writes the words for a status. `row` is the line of the table by which the port decided, if that is known.
 fn write_words<W: fmt::Write>(
     f: &mut fmt::Formatter<W>,
     row: Option<Row>,
@@ -44,7 +44,7 @@ fn write_words<W: fmt::Write>(
     }
 }
 
-// The words for a status that is no mismatch and no failure.
+// The words for a status that is neither a mismatch nor a failure.
 fn settled_words(row: Option<Row>, status: PortStatus) -> &'static str
     ensures { result.now ≡ settled_words row (status_told status) }
 {
@@ -68,7 +68,7 @@ fn settled_words(row: Option<Row>, status: PortStatus) -> &'static str
     }
 }
 
-// The words for a status that a decision led to: its line of the table, where that is known.
+// The words for a status that a decision led to: those of its line of the table, or `other` if the line is not known.
 fn decided_words(row: Option<Row>, other: &'static str) -> &'static str
     ensures { result.now ≡ decided_words row other.now }
 {

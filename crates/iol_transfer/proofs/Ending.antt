@@ -1,4 +1,4 @@
--- An answer at which an upload ends whole ends a finished upload of its set.
+-- If an answer ends an upload with a whole set, the exchanges are a finished upload of that set.
 use Rattle.std.proofs.Common.{◌≡◌, ℕ, ◌+◌, Bool, true, false, not, cond, List, [], ◌∷◌, ◌++◌, length, is_some, refl, ap, sym, ◌∙◌, subst}
 use Rattle.std.proofs.Common.{arith}
 use Rattle.std.proofs.lemmas.List.{append-nil}
@@ -62,7 +62,7 @@ whole-first false one set why is = cc
 
 -- ---- the checksum is read
 
--- the exchanges of an upload that asked for the checksum, with four octets
+-- the exchanges of an upload that asked for the checksum, and was answered with four octets
 checksum-finishes : (vendor device busy : ℕ) (entries : List Entry) (octets : List ℕ) (conversation : List Exchange)
     → IsAsking conversation (Checksum entries) busy
     → length octets ≡ 4 → IsSet (record { entries = entries; vendor = vendor; device = device; checksum = number_of octets })
@@ -95,7 +95,7 @@ checksum-finishes vendor device busy entries octets conversation asking four set
       device_is = refl;
     }
 
--- an answer at which an upload is whole
+-- an answer after which an upload is whole
 ends-whole : (vendor device busy : ℕ) (asks : Asks) (answer : Answer) (conversation : List Exchange) (set : SetValue)
     → IsAsking conversation asks busy
     → step (upload_at vendor device asks busy) answer ≡ Whole set → IsSet set
@@ -124,7 +124,7 @@ ends-whole vendor device busy (Checksum entries) (ReadOk values) conversation se
     subst (IsFinished vendor device (conversation ++ read_of DATA_STORAGE PARAMETER_CHECKSUM values.items ∷ [])) chosen.1
     (checksum-finishes vendor device busy entries values.items conversation asking four (subst IsSet (sym chosen.1) good))
 
--- where the exchanges since an upload began are known, an answer at which it is whole finishes it
+-- if the exchanges since an upload began are known, an answer after which it is whole finishes it
 pub whole-finished : (vendor device : ℕ) (conversation : List Exchange) (machine : Machine) (answer : Answer) (set : SetValue)
     → Leads (begun vendor device) conversation machine → step machine answer ≡ Whole set → IsSet set
     → IsFinished vendor device (conversation ++ answered machine answer ∷ []) set

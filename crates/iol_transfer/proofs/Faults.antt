@@ -1,4 +1,4 @@
--- An answer at which an upload ends in a fault is the cause of that fault.
+-- If an answer ends an upload with a fault, the answer is the cause of that fault.
 use Rattle.std.proofs.Common.{◌≡◌, ◌≢◌, ℕ, ◌+◌, ◌<◌, ◌≤◌, ◌⊎◌, inl, inr, suc, Bool, true, false, not, cond, List, [], ◌∷◌, ◌++◌, length}
 use Rattle.std.proofs.Common.{All, Some, None, is_some, refl, ap, sym, ◌∙◌, subst, arith}
 use Rattle.std.proofs.lemmas.List.Elements.{All-append}
@@ -37,7 +37,7 @@ use Rattle.iol_transfer.proofs.GoingOn.{under-way}
 
 -- ---- the keys of an upload's lists
 
--- none of them is reserved
+-- no key of the lists is reserved
 lists-free : (index subindex : ℕ) (lists : List Exchange) (keys : List Key) → AreLists index subindex lists keys
     → All (λ key. is_reserved key ≡ false) keys
 lists-free index subindex [] keys are = absurd are
@@ -74,7 +74,7 @@ fresh entries key behind settled has = record {
   absent = absent-before entries key behind (subst (IsDistinct same_key) (sym has.keys) (first_places-apart has.listed));
 }
 
--- where a fresh key's value of at most 232 octets is not added, the set is too large
+-- if the value of a fresh key, of at most 232 octets, is not added, the set is too large
 too-large : (entries : List Entry) (key : Key) (octets : List ℕ) → IsFresh entries key → length octets ≤ MOST_ENTRY_OCTETS
     → is_some (add_fault entries key octets) ≡ true → MOST_SET_OCTETS < octets_of entries + ENTRY_HEAD_OCTETS + length octets
 too-large entries key octets is short refused =
@@ -98,7 +98,7 @@ too-large entries key octets is short refused =
 same-fault : (one two : TransferFault) → Fault one ≡ Fault two → one ≡ two
 same-fault one two is = cc
 
--- where one of two outcomes goes on or is whole and the other is a fault, it is the fault
+-- if only one of two outcomes is a fault, a result that is a fault is that one
 fault-second : (test : Bool) (after : Machine) (why told : TransferFault) → cond test (More after) (Fault why) ≡ Fault told
     → (test ≡ false) × (why ≡ told)
 fault-second true after why told is = cc
@@ -119,7 +119,7 @@ not-equal one two test = λ same. let yes : (one == two) ≡ true = grind (arith
 
 -- ---- causes
 
--- an answer (-): to what was asked it is a refusal, and else it is to the other service
+-- an answer (-) to the request is a refusal; else it belongs to the other service
 refused-cause : (right : Bool) (asks : Asks) (busy : ℕ) (answer : Answer) (error additional : ℕ) (why : TransferFault)
     → (right ≡ true → answer ≡ refusal (is_write asks) error additional) → (right ≡ false → answers (is_write asks) answer → ⊥)
     → after_refusal right error additional ≡ Fault why → IsCause asks busy answer why
@@ -137,7 +137,7 @@ turned true false is = refl
 turned false true is = refl
 turned false false is = cc
 
--- the declared size
+-- the fault at the declared size
 size-cause : (vendor device busy : ℕ) (octets : List ℕ) (why : TransferFault)
     → after_size (upload_at vendor device Size busy) octets ≡ Fault why → IsCause Size busy (ReadOk (record { items = octets })) why
 size-cause vendor device busy octets why is =
@@ -155,7 +155,7 @@ size-cause vendor device busy octets why is =
         subst (IsCause Size busy (ReadOk (record { items = octets }))) (same-fault _ _ is) (octets, refl, (four, ltb-true _ _ l))
     by true false f l is = cc
 
--- a list; fewer than sixteen were read before it
+-- the fault at a list, if fewer than sixteen lists were read before it
 list-cause : (vendor device busy index subindex lists : ℕ) (keys : List Key) (octets : List ℕ) (why : TransferFault)
     (said : Result Listing ListFault)
     → reading_of octets ≡ said → lists < MOST_LISTS
@@ -171,7 +171,7 @@ list-cause vendor device busy index subindex lists keys octets why (Ok (listed, 
     subst (IsCause (IndexList index subindex lists keys) busy (ReadOk (record { items = octets }))) chosen.1
     (octets, refl, inr (listed, further, read, last))
 
--- a value
+-- the fault at a value
 value-cause : (vendor device busy : ℕ) (entries : List Entry) (key : Key) (behind : List Key) (octets : List ℕ) (why : TransferFault)
     → IsFresh entries key
     → length octets ≤ MOST_ENTRY_OCTETS
@@ -182,7 +182,7 @@ value-cause vendor device busy entries key behind octets why is_fresh short is =
     subst (IsCause (Value entries key behind) busy (ReadOk (record { items = octets }))) chosen.1
     (octets, refl, too-large entries key octets is_fresh short chosen.0)
 
--- the checksum
+-- the fault at the checksum
 checksum-cause : (vendor device busy : ℕ) (entries : List Entry) (octets : List ℕ) (why : TransferFault)
     → after_checksum (upload_at vendor device (Checksum entries) busy) entries octets ≡ Fault why
     → IsCause (Checksum entries) busy (ReadOk (record { items = octets })) why
@@ -191,12 +191,12 @@ checksum-cause vendor device busy entries octets why is =
     subst (IsCause (Checksum entries) busy (ReadOk (record { items = octets }))) chosen.1
     (inr (refl, octets, refl, not-equal (length octets) 4 chosen.0))
 
--- what is answered to the other service
+-- an answer of the other service is unexpected
 unexpected : (asks : Asks) (busy : ℕ) (answer : Answer) (why : TransferFault) → (answers (is_write asks) answer → ⊥)
     → Fault fault.Unexpected ≡ Fault why → IsCause asks busy answer why
 unexpected asks busy answer why not_to_it is = subst (IsCause asks busy answer) (same-fault _ _ is) (inl not_to_it)
 
--- each answer at which an upload ends in a fault
+-- each answer that ends an upload with a fault
 cause-of : (vendor device busy : ℕ) (asks : Asks) (answer : Answer) (conversation : List Exchange) (why : TransferFault)
     → IsAsking conversation asks busy
     → IsShort answer → step (upload_at vendor device asks busy) answer ≡ Fault why → IsCause asks busy answer why
@@ -229,8 +229,8 @@ cause-of vendor device busy (Value entries key behind) (ReadOk values) conversat
 cause-of vendor device busy (Checksum entries) (ReadOk values) conversation why asking short is =
     checksum-cause vendor device busy entries values.items why is
 
--- where the exchanges since an upload began are known, an answer at which it ends in a fault, or at which memory runs out
--- that is needed, is the fault's cause
+-- if the exchanges since an upload began are known, an answer that ends it with a fault, or for which the needed memory
+-- is not available, is the cause of the fault
 pub ends-in : (vendor device : ℕ) (conversation : List Exchange) (machine : Machine) (answer : Answer) (why : TransferFault)
     → Leads (begun vendor device) conversation machine → IsShort answer
     → (step machine answer ≡ Fault why) ⊎ ((why ≡ fault.Memory) × NeedsMemory machine.asks answer) → EndsIn conversation answer why

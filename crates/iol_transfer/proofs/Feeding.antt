@@ -1,4 +1,5 @@
--- What `feed` of an upload ensures of the exchanges since it began, from what it does to the upload.
+-- The claims of `feed` of an upload about the exchanges since it began follow from its effect on the
+-- upload.
 use Rattle.std.proofs.Common.{◌≡◌, ℕ, ◌⊎◌, inl, inr, List, [], ◌∷◌, ◌++◌, refl, ap, sym, ◌∙◌, subst}
 use Rattle.std.specs.Prelude.{Result, Ok, Err}
 use Rattle.iol_types.specs.DataSet.{SetValue, IsSet}
@@ -18,7 +19,7 @@ use Rattle.iol_transfer.proofs.Ending.{whole-finished}
 use Rattle.iol_transfer.proofs.Finishing.{finished-whole}
 use Rattle.iol_transfer.proofs.Faults.{ends-in}
 
--- a stage that octets lead to, once it is gone on to, is the outcome
+-- if an upload continues with the stage after these octets, this is the outcome
 pub stage-outcome : (old between new : Machine) (answer : Answer) (next : Result UploadStage TransferFault) (result : UploadStep)
     (outcome : Outcome)
     → between.vendor ≡ old.vendor → between.device ≡ old.device → GoesOn between next result new → IsStageAfter old answer next outcome
@@ -34,7 +35,7 @@ stage-outcome old between new answer (Err why) (step_is.Whole set) outcome vendo
 stage-outcome old between new answer (Err why) (step_is.Fault other) outcome vendor device goes is =
     subst (λ w. (outcome ≡ Fault w) ⊎ ((w ≡ fault.Memory) × NeedsMemory old.asks answer)) (sym goes) is
 
--- what is sent next
+-- the request that is sent next
 pub next-is : (vendor device : ℕ) (conversation : List Exchange) (machine : Machine) → IsSinceBegin vendor device conversation machine
     → IsNext conversation (asked machine)
 next-is vendor device conversation machine since =

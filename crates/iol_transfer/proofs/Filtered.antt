@@ -1,4 +1,4 @@
--- Keys that are the same, and lists without some of their keys.
+-- Equal keys, and lists without some of their keys.
 use Rattle.std.proofs.Common.{◌≡◌, ℕ, Bool, true, false, cond, ◌&&◌, List, [], ◌∷◌, refl, ap, sym, ◌∙◌, eqb-true}
 use Rattle.std.specs.Prelude.{filter, ◌==◌}
 use Rattle.std.specs.List.{AllByRecursion}
@@ -16,7 +16,7 @@ same_key-true one two same =
     ap (λ (index : ℕ). let key : Key = record { index = index; subindex = one.subindex } in key) (eqb-true _ _ both.0)
     ∙ ap (λ (subindex : ℕ). let key : Key = record { index = two.index; subindex = subindex } in key) (eqb-true _ _ both.1)
 
--- a filter of what another lets pass is one by both
+-- a filter after another filter is a filter by both tests
 pub filter-filter : {X : Type 0} (outer inner both : X → Bool) → ((x : X) → both x ≡ (inner x && outer x)) → (xs : List X)
     → filter outer (filter inner xs) ≡ filter both xs
 filter-filter outer inner both is [] = refl
@@ -30,7 +30,7 @@ filter-filter {X} outer inner both is (x ∷ xs) =
     by true rest = ap (λ (rest : List X). cond (outer x) (x ∷ rest) rest) rest
     by false rest = rest
 
--- a filter that each passes changes nothing
+-- a filter that every item passes changes nothing
 pub filter-passed : {X : Type 0} (test : X → Bool) (xs : List X) → AllByRecursion (λ x. test x ≡ true) xs → filter test xs ≡ xs
 filter-passed test [] all = refl
 filter-passed {X} test (x ∷ xs) all =

@@ -1,4 +1,4 @@
--- A finished upload makes its upload whole.
+-- A finished upload leaves its upload whole.
 use Rattle.std.proofs.Common.{◌≡◌, ℕ, zero, suc, ◌+◌, ◌<◌, ◌≤◌, true, false, not, cond, List, [], ◌∷◌, ◌++◌, length, map, fold, is_some, ap}
 use Rattle.std.proofs.Common.{sym, ◌∙◌, subst, arith, append_assoc}
 use Rattle.std.proofs.lemmas.List.{append-nil}
@@ -43,7 +43,7 @@ abbrev talk : Machine → List Exchange → Outcome
 talk machine [] = More machine
 talk machine (exchange ∷ more) = on_step (step machine exchange.answer) (λ after. talk after more) (ended more)
 
--- a conversation that has led to an upload under way goes on from there
+-- a conversation that led to an upload in progress continues from there
 talk-on : (conversation : List Exchange) (machine last : Machine) (exchange : Exchange) → Leads machine conversation last
     → talk machine (conversation ++ exchange ∷ []) ≡ talk last (exchange ∷ [])
 talk-on [] machine last exchange leads = ap (λ m. talk m (exchange ∷ [])) leads
@@ -57,7 +57,7 @@ last-whole (More machine) set is = cc
 last-whole (Whole whole) set is = is
 last-whole (Fault why) set is = cc
 
--- Device busy is waited out
+-- after Device busy the request is sent again
 busy-talk : (times vendor device busy : ℕ) (asks : Asks) (request : Request) (rest : List Exchange) → busy + times < MOST_REQUESTS
     → talk (upload_at vendor device asks busy) (busy_times times request ++ rest) ≡ talk (upload_at vendor device asks (busy + times)) rest
 busy-talk zero vendor device busy asks request rest few = ap (λ count. talk (upload_at vendor device asks count) rest) (omega arith)
@@ -76,7 +76,7 @@ some-lists : (index subindex : ℕ) (lists : List Exchange) (keys : List Key) �
 some-lists index subindex [] keys are = absurd are
 some-lists index subindex (exchange ∷ more) keys are = omega arith
 
--- the lists of an upload lead to the reading of their keys
+-- the lists of an upload lead to the reads of their keys
 lists-talk : (lists tail : List Exchange) (vendor device index subindex read : ℕ) (before listed : List Key) (conversation : List Exchange)
     → Follows conversation (lists ++ tail) → AreLists index subindex lists listed → read + length lists ≤ MOST_LISTS
     → (rest : List Exchange) × Follows rest tail
@@ -212,7 +212,8 @@ finished-talk vendor device conversation set finished =
     } in
     begins ∙ sizes ∙ lists.2 ∙ keyed ∙ values.2 ∙ ends ∙ ap Whole is
 
--- where the exchanges since an upload began are known, and the next finishes an upload of a set, it makes it whole
+-- if the exchanges since an upload began are known, and the next one finishes an upload of a set, it makes the
+-- upload whole
 pub finished-whole : (vendor device : ℕ) (conversation : List Exchange) (machine : Machine) (answer : Answer) (set : SetValue)
     → Leads (begun vendor device) conversation machine → IsFinished vendor device (conversation ++ answered machine answer ∷ []) set
     → step machine answer ≡ Whole set

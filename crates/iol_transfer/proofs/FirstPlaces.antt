@@ -1,4 +1,4 @@
--- Keys that are kept one by one, each where it is not among those before it.
+-- Keys that are kept one by one, each only if it is not among those before it.
 use Rattle.std.proofs.Common.{◌≡◌, List, [], ◌∷◌, ◌++◌, fold, ap, sym, ◌∙◌}
 use Rattle.std.proofs.lemmas.List.{append-nil}
 use Rattle.std.proofs.lemmas.List.Sums.{fold-append}
@@ -13,7 +13,7 @@ fold-kept_with kept (key ∷ keys) = fold-kept_with (kept_with kept key) keys �
 first_places-fold : (keys : List Key) → fold kept_with [] keys ≡ first_places keys
 first_places-fold keys = fold-kept_with [] keys ∙ without-none (first_places keys)
 
--- keys that are kept behind others stand at their first places among all
+-- keys that are kept after others are at their first places among all keys
 pub first_places-more : (keys more : List Key) → fold kept_with (first_places keys) more ≡ first_places (keys ++ more)
 first_places-more keys more =
     ap (λ kept. fold kept_with kept more) (sym (first_places-fold keys)) ∙ sym (fold-append kept_with [] keys more)

@@ -1,4 +1,4 @@
--- Each answer at which an upload goes on keeps to the order, so that what is asked next is known of the exchanges alone.
+-- Each answer with which an upload continues follows the order, so its next request depends on the exchanges alone.
 use Rattle.std.proofs.Common.{◌≡◌, ℕ, ◌+◌, Bool, true, false, not, cond, List, [], ◌∷◌, ◌++◌, length, fold, Option, Some, None, is_some}
 use Rattle.std.proofs.Common.{refl, ap, sym, ◌∙◌, subst, arith, append_assoc, lit<}
 use Rattle.std.proofs.lemmas.List.{append-nil, replicate_more}
@@ -28,7 +28,7 @@ use Rattle.iol_transfer.proofs.Order.{upload_at, with_answer, asked-reading, adv
 
 -- ---- outcomes that are not a fault
 
--- where one of two outcomes goes on and the other is a fault, it is the one
+-- if one of two outcomes is a fault, a result that continues is the other one
 more-first : (test : Bool) (one : Outcome) (after : Machine) (why : TransferFault) → cond test one (Fault why) ≡ More after
     → (test ≡ true) × (one ≡ More after)
 more-first true one after why is = (refl, is)
@@ -52,7 +52,7 @@ none-of (Some x) h = cc
 
 -- ---- one answer
 
--- an upload goes on to what is asked next
+-- an upload continues with the next request
 goes : (vendor device busy : ℕ) (asks next : Asks) (answer : Answer) (conversation : List Exchange) (after : Machine)
     → IsAsking conversation asks busy
     → upload_at vendor device next 0 ≡ after
@@ -129,7 +129,7 @@ checksum-ends : (test : Bool) (set : SetValue) (after : Machine) → cond test (
 checksum-ends true set after is = cc
 checksum-ends false set after is = cc
 
--- each answer at which an upload goes on
+-- each answer with which an upload continues
 goes-on : (vendor device busy : ℕ) (asks : Asks) (answer : Answer) (conversation : List Exchange) (after : Machine)
     → IsAsking conversation asks busy
     → step (upload_at vendor device asks busy) answer ≡ More after
@@ -217,7 +217,7 @@ kept-by vendor device outcome after is keeps = subst (Keeps vendor device) is ke
 
 -- ---- whole conversations
 
--- an upload under way has the numbers of its device, and what it asks is known of its exchanges
+-- an upload in progress has the numbers of its device, and its next request is determined by its exchanges
 pub record IsUnderWay (vendor device : ℕ) (conversation : List Exchange) (machine : Machine) : Type 0 where
   pub asking : IsAsking conversation machine.asks machine.busy
   pub vendor_is : machine.vendor ≡ vendor
@@ -245,7 +245,7 @@ under-way-on vendor device (exchange ∷ more) machine last conversation way lea
     subst (λ c. IsUnderWay vendor device c last) (append_assoc conversation (exchange ∷ []) more)
     (under-way-on vendor device more leads.1 last (conversation ++ exchange ∷ []) on leads.3)
 
--- the exchanges since an upload began say what it asks
+-- the exchanges since an upload began determine its next request
 pub under-way : (vendor device : ℕ) (conversation : List Exchange) (machine : Machine) → Leads (begun vendor device) conversation machine
     → IsUnderWay vendor device conversation machine
 under-way vendor device conversation machine leads = under-way-on vendor device conversation (begun vendor device) machine [] (record {

@@ -1,4 +1,4 @@
--- An upload that goes on has kept to the order.
+-- An upload that continues has followed the order.
 use Rattle.std.proofs.Common.{◌≡◌, ℕ, ◌+◌, ◌<◌, List, [], ◌∷◌, ◌++◌, map, fold, refl, ap, sym, ◌∙◌, subst, arith, append_assoc}
 use Rattle.std.proofs.Common.{length-append, lit<}
 use Rattle.std.proofs.lemmas.List.{map-append, append-nil}
@@ -23,11 +23,11 @@ use Rattle.iol_transfer.specs.Machine.{Machine, reading}
 abbrev pub upload_at : ℕ → ℕ → Asks → ℕ → Machine
 upload_at vendor device asks busy = record { vendor = vendor; device = device; asks = asks; busy = busy }
 
--- what is asked, with an answer to it
+-- a request with an answer to it
 abbrev pub with_answer : Asks → Answer → Exchange
 with_answer asks answer = record { request = request_of asks; answer = answer }
 
--- one more exchange, sent again at Device busy, follows those that are settled
+-- one more exchange, sent again after Device busy, follows the settled ones
 pub follows-more : (before settled : List Exchange) (times : ℕ) (exchange : Exchange) → Follows before settled → times < MOST_REQUESTS
     → Follows (before ++ busy_times times exchange.request ++ exchange ∷ []) (settled ++ exchange ∷ [])
 follows-more before [] times exchange is few = (times, [], few, ap (λ b. b ++ busy_times times exchange.request ++ exchange ∷ []) is, refl)
@@ -42,7 +42,7 @@ follows-more before (first ∷ settled) times exchange follows few =
       follows-more follows.1 settled times exchange follows.4 few,
     )
 
--- a list that ends, behind those that lead to it
+-- a list that ends, after those that lead to it
 leads-end : (index subindex : ℕ) (reads : List Exchange) (to_index to_subindex : ℕ) (keys : List Key) (octets : List ℕ) (listed : List Key)
     → LeadsTo index subindex reads to_index to_subindex keys → reading_of octets ≡ Ok (listed, next_is.End)
     → AreLists index subindex (reads ++ read_of to_index to_subindex octets ∷ []) (keys ++ listed)
@@ -62,7 +62,7 @@ leads-end index subindex (exchange ∷ reads) to_index to_subindex keys octets l
   ),
 )
 
--- a list that names another, behind those that lead to it
+-- a list that names another, after those that lead to it
 leads-more : (index subindex : ℕ) (reads : List Exchange) (to_index to_subindex : ℕ) (keys : List Key) (octets : List ℕ) (listed : List Key)
     (further : ℕ)
     → LeadsTo index subindex reads to_index to_subindex keys → reading_of octets ≡ Ok (listed, next_is.List further)
@@ -80,13 +80,14 @@ leads-more index subindex (exchange ∷ reads) to_index to_subindex keys octets 
   ap (λ k. k ++ listed) leads.7 ∙ append_assoc leads.1 leads.3 listed,
 )
 
--- with entries read, the first key that is left is asked next, or the checksum
+-- after these entries were read, the next request is for the first key that is left, or for the
+-- checksum
 pub asked-reading : (entries : List Entry) (left : List Key) (settled : List Exchange) → HasRead entries left settled
     → IsAskedAfter settled (reading entries left)
 asked-reading entries [] settled has = has
 asked-reading entries (key ∷ behind) settled has = has
 
--- a settled exchange leads to what is asked next
+-- a settled exchange leads to the next request
 pub advance : (asks next : Asks) (busy : ℕ) (answer : Answer) (conversation : List Exchange) → IsAsking conversation asks busy
     → ((settled : List Exchange) → IsAskedAfter settled asks → IsAskedAfter (settled ++ with_answer asks answer ∷ []) next)
     → IsAsking (conversation ++ with_answer asks answer ∷ []) next 0

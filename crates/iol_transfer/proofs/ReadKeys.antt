@@ -1,4 +1,4 @@
--- The keys that are read of an Index_List: in their ranges, not reserved, and none twice.
+-- The keys that are read from an Index_List are in their ranges, not reserved, and not repeated.
 use Rattle.std.proofs.Common.{◌≡◌, ℕ, ◌<◌, Bool, true, false, cond, not, List, [], ◌∷◌, length, get_or, refl, ap, arith, All, suc, subst}
 use Rattle.std.specs.Prelude.{Result, Ok, Err, IfOk, filter, ◌==◌}
 use Rattle.std.specs.List.{AllByRecursion, IsDistinct}
@@ -12,14 +12,14 @@ use Rattle.iol_transfer.specs.declared.list.Next.TheVariants as next_is
 use Rattle.iol_transfer.specs.declared.list.ListFault.{ListFault}
 use Rattle.iol_transfer.specs.declared.list.ListFault.TheVariants.{ReservedKey}
 
--- a fact holds of each key that is listed, where the listing can be read
+-- a property holds of each listed key, if the listing can be read
 abbrev pub OfEachKey : (Key → Type 0) → Result Listing ListFault → Type 0
 OfEachKey P said = IfOk said (λ listing. All P listing.0)
 
 none : (P : Key → Type 0) → All P []
 none P k d below = absurd (omega (arith, below))
 
--- behind an Index that is not reserved
+-- the same for the keys from an Index on that is not reserved
 at_index-each : (P : Key → Type 0) (index : ℕ) (said : Result Listing ListFault)
     → (is_reserved (record { index = index; subindex = 0 }) ≡ false → OfEachKey P said) → OfEachKey P (at_index index said)
 at_index-each P index said each = by (index == 0) (is_reserved (record { index = index; subindex = 0 })) refl
@@ -30,7 +30,7 @@ at_index-each P index said each = by (index == 0) (is_reserved (record { index =
     by false true is = tt
     by false false is = each is
 
--- what holds of each key that is not reserved holds of those that are listed, where O holds of each octet
+-- a property of all keys that are not reserved holds of the listed ones, if O holds of each octet
 listing_of-each : (O : ℕ → Type 0) (P : Key → Type 0) (octets : List ℕ) → ((i : ℕ) → O (get_or octets i 0))
     → ((high low subindex : ℕ) → O high → O low → O subindex → is_reserved (key_of high low subindex) ≡ false
     → P (key_of high low subindex))
@@ -58,7 +58,7 @@ first_places-each P (key ∷ keys) each =
     (All-filter (λ other. not (same_key key other)) P (first_places keys)
     (first_places-each P keys (λ k d below. each (suc k) d (omega (arith, below)))))
 
--- a filter leaves keys apart that are
+-- a filter keeps all keys different from a key
 apart-filter : (test : Key → Bool) (key : Key) (keys : List Key) → AllByRecursion (λ other. same_key key other ≡ false) keys
     → AllByRecursion (λ other. same_key key other ≡ false) (filter test keys)
 apart-filter test key [] apart = tt
@@ -79,7 +79,7 @@ distinct-filter test (key ∷ keys) distinct = by (test key) (distinct-filter te
     by true rest = (apart-filter test key keys distinct.0, rest)
     by false rest = rest
 
--- what is not the same as a key stands apart from it
+-- after a key is filtered out, all other keys differ from it
 apart-passed : (key : Key) (keys : List Key)
     → AllByRecursion (λ other. same_key key other ≡ false) (filter (λ other. not (same_key key other)) keys)
 apart-passed key [] = tt
@@ -102,7 +102,7 @@ first_places-apart (key ∷ keys) = (
       (first_places-apart keys),
 )
 
--- no key that is listed is reserved
+-- no listed key is reserved
 free_listed : (octets : List ℕ) → OfEachKey (λ key. is_reserved key ≡ false) (listing_of octets)
 free_listed octets =
     listing_of-each (λ _. Unit {0}) (λ key. is_reserved key ≡ false) octets (λ _. tt) (λ high low subindex h l s free. free)
@@ -116,7 +116,7 @@ each_read (Ok said) each free = record {
 }
 each_read (Err fault) each free = tt
 
--- the keys that are read of octets
+-- the keys that are read from octets
 pub reading_of-keys : (octets : List ℕ) (keys : List Key) (next : Next) → ((i : ℕ) → get_or octets i 0 < 256)
     → reading_of octets ≡ Ok (keys, next) → AreReadKeys keys
 reading_of-keys octets keys next fit read =
@@ -126,7 +126,7 @@ reading_of-keys octets keys next fit read =
     (λ high low subindex h l s free. record { index = omega (arith, h, l); subindex = omega (arith, s) }))
     (free_listed octets))
 
--- and none of them is reserved, of whatever numbers they are read
+-- none of them is reserved, whatever numbers the octets are
 pub reading_of-free : (octets : List ℕ) (keys : List Key) (next : Next) → reading_of octets ≡ Ok (keys, next)
     → All (λ key. is_reserved key ≡ false) keys
 reading_of-free octets keys next read =
@@ -138,24 +138,24 @@ reading_of-free octets keys next read =
     by (Ok said) free = first_places-each (λ key. is_reserved key ≡ false) said.0 free
     by (Err fault) free = tt
 
--- the keys that are said
+-- the keys of a listing
 abbrev keys_in : Result Listing ListFault → List Key
 keys_in (Ok said) = said.0
 keys_in (Err fault) = []
 
--- what says no key says none
+-- a listing without keys has no key
 no_keys : (keys : List Key) (next other : Next) → (let said : Result Listing ListFault = Ok ([], other) in said) ≡ Ok (keys, next)
     → 0 < length keys → ⊥
 no_keys [] next other said some = absurd (omega (arith, some))
 no_keys (key ∷ keys) next other said some = let none : [] ≡ key ∷ keys = ap keys_in said in cc
 
--- nothing is read behind a reserved Index
+-- no key is read from a reserved Index on
 none_behind : (zero : Bool) (said : Result Listing ListFault) (keys : List Key) (next : Next)
     → at_first_places (cond zero (Ok ([], next_is.End)) (cond true (Err ReservedKey) said)) ≡ Ok (keys, next) → 0 < length keys → ⊥
 none_behind true said keys next read some = no_keys keys next _ read some
 none_behind false said keys next read some = cc
 
--- two octets are no key
+-- two octets are not a key
 two_octets_none : (zero reserved : Bool) (index : ℕ) (keys : List Key) (next : Next)
     → at_first_places (cond zero (Ok ([], next_is.End)) (cond reserved (Err ReservedKey) (Ok ([], next_is.List index)))) ≡ Ok (keys, next)
     → 0 < length keys → ⊥
@@ -163,14 +163,14 @@ two_octets_none true reserved index keys next read some = no_keys keys next _ re
 two_octets_none false true index keys next read some = cc
 two_octets_none false false index keys next read some = no_keys keys next _ read some
 
--- the Index of a key that is read is not reserved
+-- the Index of a key that was read is not reserved
 free_first : (zero reserved : Bool) (said : Result Listing ListFault) (keys : List Key) (next : Next)
     → at_first_places (cond zero (Ok ([], next_is.End)) (cond reserved (Err ReservedKey) said)) ≡ Ok (keys, next) → 0 < length keys
     → not reserved ≡ true
 free_first zero true said keys next read some = absurd (none_behind zero said keys next read some)
 free_first zero false said keys next read some = refl
 
--- octets of which a key is read begin with one
+-- octets from which a key is read begin with one
 pub reading_of-begins : (octets : List ℕ) (keys : List Key) (next : Next) → reading_of octets ≡ Ok (keys, next)
     → 0 < length keys → begins_with_key octets ≡ true
 reading_of-begins [] keys next read some = absurd (no_keys keys next _ read some)

@@ -1,4 +1,4 @@
--- An Index_List read from an entry's place on, behind keys that are kept already.
+-- An Index_List that is read from an entry on, after keys that were kept already.
 use Rattle.std.proofs.Common.{◌≡◌, ℕ, ◌≤◌, Bool, true, false, cond, not, ◌&&◌, ◌||◌, List, [], ◌∷◌, ◌++◌, length, get_or, take, drop, ◌-◌}
 use Rattle.std.proofs.Common.{refl, ap, sym, ◌∙◌, arith, append_assoc}
 use Rattle.std.specs.Prelude.{Result, Ok, Err, filter, ◌==◌}
@@ -14,16 +14,16 @@ use Rattle.iol_transfer.specs.declared.list.ListFault.{ListFault}
 use Rattle.iol_transfer.specs.declared.list.ListFault.TheVariants.{ReservedKey}
 use Rattle.iol_transfer.proofs.Filtered.{same_key-true, filter-filter}
 
--- keys without those that are among others
+-- keys that are not among others
 abbrev pub without : List Key → List Key → List Key
 without others keys = filter (λ key. not (is_among others key)) keys
 
--- what is said, behind keys that are kept: those that are not among them come behind them
+-- the contents of a list after kept keys: the keys that are not among them follow them
 abbrev pub behind : List Key → Result Listing ListFault → Result Listing ListFault
 behind kept (Ok said) = Ok (kept ++ without kept said.0, said.1)
 behind kept (Err fault) = Err fault
 
--- what is read of octets behind keys that are kept
+-- the result of reading octets after kept keys
 abbrev pub read_behind : List Key → List ℕ → Result Listing ListFault
 read_behind kept octets = behind kept (reading_of octets)
 
@@ -31,7 +31,7 @@ pub without-none : (keys : List Key) → without [] keys ≡ keys
 without-none [] = refl
 without-none (key ∷ keys) = ap (λ (rest : List Key). key ∷ rest) (without-none keys)
 
--- at first no key is kept
+-- at the beginning no key is kept
 pub read_behind-none : (octets : List ℕ) → reading_of octets ≡ read_behind [] octets
 read_behind-none octets = by (reading_of octets)
   where
@@ -39,7 +39,7 @@ read_behind-none octets = by (reading_of octets)
     by (Ok said) = ap (λ (keys : List Key). let r : Result Listing ListFault = Ok (keys, said.1) in r) (sym (without-none said.0))
     by (Err fault) = refl
 
--- what is among keys is not both among them and apart from one of them
+-- if a key is kept, a key that is not among the kept ones also differs from it
 among_both : (kept : List Key) (key other : Key) → is_among kept key ≡ true
     → not (is_among kept other) ≡ (not (same_key key other) && not (is_among kept other))
 among_both kept key other among = by (same_key key other) refl
@@ -48,7 +48,7 @@ among_both kept key other among = by (same_key key other) refl
     by true same = ap (λ (k : Key). not (is_among kept k)) (sym (same_key-true key other same)) ∙ ap not among
     by false same = refl
 
--- a key is among others and one more where it is that one or among them
+-- a key is not among these and one more if it differs from that one and is not among these
 among_more : (kept : List Key) (key other : Key)
     → not (is_among (kept ++ key ∷ []) other) ≡ (not (same_key key other) && not (is_among kept other))
 among_more kept key other =
@@ -60,7 +60,7 @@ among_more kept key other =
     by false true = refl
     by false false = refl
 
--- a key that is among the kept ones is not kept again, and another comes behind them
+-- a key that is among the kept ones is not kept again, and any other key follows them
 pub kept_more : (kept : List Key) (key : Key) (keys : List Key)
     → kept ++ without kept (key ∷ filter (λ other. not (same_key key other)) keys) ≡ kept_with kept key ++ without (kept_with kept key) keys
 kept_more kept key keys = by (is_among kept key) refl
@@ -74,7 +74,7 @@ kept_more kept key keys = by (is_among kept key) refl
         ap (λ (rest : List Key). kept ++ key ∷ rest) (filter-filter _ _ _ (λ other. among_more kept key other) keys)
         ∙ sym (append_assoc kept (key ∷ []) (without (kept ++ key ∷ []) keys))
 
--- an Index that is not reserved says what it says
+-- an Index that is not reserved changes nothing of the contents
 pub at_index-free : (index : ℕ) (said : Result Listing ListFault) → is_reserved (record { index = index; subindex = 0 }) ≡ false
     → at_index index said ≡ said
 at_index-free index said free = by (index == 0) (index == 2) (index == 3) free
@@ -86,11 +86,11 @@ at_index-free index said free = by (index == 0) (index == 2) (index == 3) free
     by false false true free = cc
     by false false false free = refl
 
--- the key of an entry that octets begin with
+-- the key of the entry with which these octets begin
 abbrev pub key_in : List ℕ → Key
 key_in octets = key_of (get_or octets 0 0) (get_or octets 1 0) (get_or octets 2 0)
 
--- behind an entry whose key is not reserved the reading goes on, with the key kept
+-- after an entry whose key is not reserved, reading continues with this key kept
 pub read_behind-entry : (kept : List Key) (octets : List ℕ) → 3 ≤ length octets → is_reserved (key_in octets) ≡ false
     → read_behind kept octets ≡ read_behind (kept_with kept (key_in octets)) (drop 3 octets)
 read_behind-entry kept [] whole free = absurd (omega (arith, whole))
@@ -116,6 +116,6 @@ begins_with_key-entry (high ∷ []) whole free = absurd (omega (arith, whole))
 begins_with_key-entry (high ∷ low ∷ []) whole free = absurd (omega (arith, whole))
 begins_with_key-entry (high ∷ low ∷ subindex ∷ more) whole free = ap not free
 
--- what a pattern leaves behind its first octets
+-- the octets that a pattern leaves after the first ones
 pub take-drop_all : (count : ℕ) (octets : List ℕ) → take (length octets - count) (drop count octets) ≡ drop count octets
 take-drop_all count octets = ap (λ n. take n (drop count octets)) (sym (length-drop count octets)) ∙ take-length (drop count octets)

@@ -1,4 +1,4 @@
--- What is written of an Index_List is read again.
+-- An Index_List that is written is read back.
 use Rattle.std.proofs.Common.{◌≡◌, ℕ, ◌/◌, ◌%◌, true, false, not, List, [], ◌∷◌, refl, ap, ◌∙◌, arith, All, suc}
 use Rattle.std.specs.Prelude.{Result, Ok, filter}
 use Rattle.std.specs.List.{AllByRecursion, IsDistinct}
@@ -12,17 +12,17 @@ use Rattle.iol_transfer.specs.declared.list.ListFault.{ListFault}
 use Rattle.iol_transfer.proofs.Filtered.{filter-passed}
 use Rattle.iol_transfer.proofs.Readings.{at_index-free}
 
--- a number of two octets is the number that they are
+-- a number of two octets is read back from them
 index_of-two_octets : (number : ℕ) → index_of (number / 256) (number % 256) ≡ number
 index_of-two_octets number = omega arith
 
--- what an Index that is not reserved says, where it is read of its two octets
+-- the contents of a list at an Index that is not reserved, read from its two octets
 at_two_octets : (index : ℕ) (said : ℕ → Result Listing ListFault) → is_reserved (record { index = index; subindex = 0 }) ≡ false
     → at_index (index_of (index / 256) (index % 256)) (said (index_of (index / 256) (index % 256))) ≡ said index
 at_two_octets index said free =
     ap (λ (number : ℕ). at_index number (said number)) (index_of-two_octets index) ∙ at_index-free index (said index) free
 
--- keys that are not reserved are listed as they are written
+-- keys that are not reserved are listed as they were written
 listing_of-list_octets : (keys : List Key) (next : Next) → All (λ key. is_reserved key ≡ false) keys → CanFollow next
     → listing_of (list_octets keys next) ≡ Ok (keys, next)
 listing_of-list_octets [] next.End free can = refl
@@ -34,7 +34,7 @@ listing_of-list_octets (key ∷ keys) next free can =
     ∙ ap (λ (said : Result Listing ListFault). listed_before key said)
     (listing_of-list_octets keys next (λ k d below. free (suc k) d (omega (arith, below))) can)
 
--- keys of which none is like one after it each stand at their first place
+-- if no key equals one after it, each is at its first place
 first_places-distinct : (keys : List Key) → IsDistinct same_key keys → first_places keys ≡ keys
 unfolding IsDistinct
 first_places-distinct [] distinct = refl

@@ -1,4 +1,5 @@
--- What `feed` of a download ensures of the exchanges since it began, from what it does to the download.
+-- The claims of `feed` of a download about the exchanges since it began follow from its effect on the
+-- download.
 use Rattle.std.proofs.Common.{◌≡◌, ◌≢◌, ℕ, zero, suc, ◌+◌, ◌<◌, ◌⊎◌, inl, inr, List, [], ◌∷◌, ◌++◌, map, length, drop, get_or, refl, ap}
 use Rattle.std.proofs.Common.{sym, ◌∙◌, subst, arith, append_assoc, lit<}
 use Rattle.std.proofs.lemmas.List.{map-append, append-nil, replicate_more, drop_more}
@@ -130,7 +131,7 @@ done-not-busy same = cc
 same-head : (one two : Exchange) (rest more : List Exchange) → one ∷ rest ≡ two ∷ more → (one.answer ≡ two.answer) × (rest ≡ more)
 same-head one two rest more is = (cc, cc)
 
--- what is answered (+) after Device busy: as often, and with the same behind it
+-- if a request is answered (+) after Device busy, the exchanges after it are determined
 same-busy : (times others : ℕ) (request : Request) (rest more : List Exchange)
     → busy_times times request ++ done request ∷ rest ≡ busy_times others request ++ done request ∷ more → rest ≡ more
 same-busy zero zero request rest more is = (same-head _ _ rest more is).1
@@ -138,7 +139,8 @@ same-busy zero (suc others) request rest more is = absurd (done-not-busy (same-h
 same-busy (suc times) zero request rest more is = absurd (done-not-busy (sym (same-head _ _ _ more is).0))
 same-busy (suc times) (suc others) request rest more is = same-busy times others request rest more (same-head _ _ _ _ is).1
 
--- what follows some requests and others goes on from those with the others
+-- the exchanges of some requests and then others, without those of the first ones, are those of the
+-- others
 follows-rest : (sent left : List Request) (before rest : List Exchange) → Follows before (map done sent)
     → Follows (before ++ rest) (map done (sent ++ left))
     → Follows rest (map done left)
@@ -149,7 +151,7 @@ follows-rest (request ∷ sent) left before rest first all =
     follows-rest sent left first.1 rest first.4
     (subst (λ r. Follows r (map done (sent ++ left))) (same-busy all.0 first.0 request all.1 (first.1 ++ rest) is) all.4)
 
--- an answer that ends what one request and others follow is (+), and there are no others
+-- if an answer ends the exchanges of a request and others, it is (+), and there are no others
 last-of : (times busy : ℕ) (request : Request) (answer : Answer) (left : List Request) (rest : List Exchange)
     → busy_times busy request ++ record { request = request; answer = answer } ∷ [] ≡ busy_times times request ++ done request ∷ rest
     → Follows rest (map done left) → (answer ≡ WriteOk) × (left ≡ [])
@@ -185,7 +187,7 @@ none-behind set (Parameter entry behind) is = absurd (some behind is)
     some (one ∷ entries) is = cc
 none-behind set Closing is = refl
 
--- an answer that makes a whole download is (+), to the last request
+-- an answer that makes a download whole is (+), and answers the last request
 pub last-answer : (set : SetValue) (conversation : List Exchange) (old : Sender) (answer : Answer) → IsDownloading set conversation old
     → IsDownload set (conversation ++ answered_to old answer ∷ []) → (answer ≡ WriteOk) × (old.sends ≡ Closing)
 last-answer set conversation old answer since all =
@@ -228,9 +230,9 @@ fed-last old new answer result is set conversation since all = by result is
         never fault.Busy cause = done-not-busy cause.0
         never fault.Memory cause = cause
 
--- ---- what is written next
+-- ---- the next write
 
--- at the place of an entry it is the next, and behind the last there is none
+-- at the place of an entry, this entry is written; after the last one, there is none
 pub writing-entry : (entries : List Entry) (place : ℕ) (entry : Entry) → Some entry ≡ slice_get entries place
     → sent_by (writing (drop place entries)) ≡ entry_written entry
 writing-entry entries place entry there =
@@ -249,7 +251,7 @@ writing-end (entry ∷ entries) (suc place) none = writing-end entries place non
 parameter-open : (entry : Entry) (behind : List Entry) → Parameter entry behind ≡ Closing → ⊥
 parameter-open entry behind same = cc
 
--- and the next place is behind it
+-- the next place is the one after it
 pub writing-next : (set : SetValue) (place : ℕ) → place < length set.entries
     → (writing (drop place set.entries) ≢ Closing)
     × (writing (drop (place + 1) set.entries) ≡ sends_after set (writing (drop place set.entries)))

@@ -1,4 +1,4 @@
--- What an upload asks next, for the answers so far, and why it ends in a fault.
+-- What an upload asks for next, given the answers so far, and why it ends in a fault.
 use Rattle.std.specs.Prelude.{◌≡◌, ◌≢◌, ℕ, ◌+◌, ◌<◌, ◌≤◌, ◌⊎◌, Bool, true, false, List, [], ◌∷◌, ◌++◌, length, map, Ok, Err, IsTrue}
 use Rattle.std.specs.Map.{keys_of}
 use Rattle.iol_types.specs.DataSet.{Entry, octets_of}
@@ -22,9 +22,9 @@ use Rattle.iol_transfer.specs.declared.fault.TransferFault.TheVariants as fault
 use Rattle.iol_transfer.specs.declared.repeats.TheConstants.{MOST_REQUESTS}
 use Rattle.iol_transfer.specs.declared.upload.TheConstants.{MOST_LISTS}
 
--- what an upload asks next, with what it knows by then. It asks to start, and for the size. It asks for a list at an
--- address, with the lists read and their keys. It asks for a key's value, with the entries read and the keys behind it, and
--- for the checksum, with the entries (own)
+-- the next request of an upload, with what it knows by then: the start; the size; a list at an address, with the number of
+-- lists read and their keys; the value of a key, with the entries read and the keys after it; the checksum, with the
+-- entries (own)
 pub data Asks : Type 0 where
   Start : Asks
   Size : Asks
@@ -32,7 +32,7 @@ pub data Asks : Type 0 where
   Value : (entries : List Entry) (key : Key) (behind : List Key) → Asks
   Checksum : (entries : List Entry) → Asks
 
--- the request that asks it (standard, Data Storage object)
+-- the request that is sent (standard, Data Storage object)
 abbrev pub request_of : Asks → Request
 request_of Start = commanded UploadStart
 request_of Size = Read DATA_STORAGE DATA_STORAGE_SIZE
@@ -40,8 +40,8 @@ request_of (IndexList index subindex lists keys) = Read index subindex
 request_of (Value entries key behind) = Read key.index key.subindex
 request_of (Checksum entries) = Read DATA_STORAGE PARAMETER_CHECKSUM
 
--- these exchanges read lists from an address on, each where the one before says, and the last names another address; they
--- list these keys (standard, Data Storage object)
+-- these exchanges read lists, the first at an address and each other at the Index that the one before names; the last names
+-- another address; they list these keys (standard, Data Storage object)
 abbrev pub LeadsTo : ℕ → ℕ → List Exchange → ℕ → ℕ → List Key → Type 0
 LeadsTo index subindex [] to_index to_subindex keys = (index ≡ to_index) × (subindex ≡ to_subindex) × (keys ≡ [])
 LeadsTo index subindex (exchange ∷ more) to_index to_subindex keys =
@@ -49,7 +49,8 @@ LeadsTo index subindex (exchange ∷ more) to_index to_subindex keys =
     × (exchange ≡ read_of index subindex octets) × (reading_of octets ≡ Ok (listed, next.List further))
     × LeadsTo further 0 more to_index to_subindex others × (keys ≡ listed ++ others)
 
--- an upload has settled these exchanges: lists, so many and fewer than 16, which lead to an address, with these keys (own)
+-- an upload has settled these exchanges: this number of lists, fewer than 16, which lead to this address, with these keys
+-- (own)
 pub record HasListed (index subindex lists : ℕ) (keys : List Key) (settled : List Exchange) : Type 0 where
   pub size : List ℕ
   pub reads : List Exchange
@@ -72,7 +73,8 @@ pub record HasRead (entries : List Entry) (left : List Key) (settled : List Exch
   pub few : length lists ≤ MOST_LISTS
   pub keys : keys_of entries ++ left ≡ first_places listed
 
--- after these settled exchanges an upload asks this: the order of an upload, step by step (standard, Data Storage object)
+-- after these settled exchanges an upload asks for this: the order of an upload, step by step
+-- (standard, Data Storage object)
 abbrev pub IsAskedAfter : List Exchange → Asks → Type 0
 IsAskedAfter settled Start = settled ≡ []
 IsAskedAfter settled Size = settled ≡ done (commanded UploadStart) ∷ []
@@ -80,7 +82,7 @@ IsAskedAfter settled (IndexList index subindex lists keys) = HasListed index sub
 IsAskedAfter settled (Value entries key behind) = HasRead entries (key ∷ behind) settled
 IsAskedAfter settled (Checksum entries) = HasRead entries [] settled
 
--- after this conversation an upload asks this, which was answered Device busy so many times in a row, fewer than 16 (own)
+-- after this conversation an upload asks for this, and was answered Device busy `busy` times in a row, fewer than 16 (own)
 pub record IsAsking (conversation : List Exchange) (asks : Asks) (busy : ℕ) : Type 0 where
   pub settled : List Exchange
   pub before : List Exchange
@@ -89,30 +91,30 @@ pub record IsAsking (conversation : List Exchange) (asks : Asks) (busy : ℕ) : 
   pub follows : Follows before settled
   pub asked : IsAskedAfter settled asks
 
--- after this conversation this is the request that an upload sends next (own)
+-- after this conversation an upload sends this request next (own)
 pub record IsNext (conversation : List Exchange) (request : Request) : Type 0 where
   pub asks : Asks
   pub busy : ℕ
   pub asking : IsAsking conversation asks busy
   pub request_is : request ≡ request_of asks
 
--- an upload asks by a write (own)
+-- the next request of an upload is a write (own)
 abbrev pub is_write : Asks → Bool
 is_write Start = true
 is_write _ = false
 
--- four octets are asked for (own)
+-- the request is answered by four octets (own)
 abbrev pub asks_number : Asks → Bool
 asks_number Size = true
 asks_number (Checksum entries) = true
 asks_number _ = false
 
--- the answer (-) to what is asked, with these codes (standard, ISDU)
+-- the answer (-) to the request, with these codes (standard, ISDU)
 abbrev pub refusal : Bool → ℕ → ℕ → Answer
 refusal true error additional = WriteFault error additional
 refusal false error additional = ReadFault error additional
 
--- an answer is to a write, or to a read; Device busy is to either (standard, ISDU)
+-- this is an answer to a write, or to a read; Device busy is an answer to either (standard, ISDU)
 abbrev pub answers : Bool → Answer → Type 0
 answers write Busy = Unit {0}
 answers write WriteOk = write ≡ true
@@ -120,32 +122,33 @@ answers write (WriteFault error additional) = write ≡ true
 answers write (ReadOk values) = write ≡ false
 answers write (ReadFault error additional) = write ≡ false
 
--- an answer is not to what was asked: to the other service, or it is to be a number and is not four octets (own)
+-- this is no answer to the request: it belongs to the other service, or it should be a number and does not have four octets
+-- (own)
 abbrev pub IsUnexpected : Asks → Answer → Type 0
 IsUnexpected asks answer =
     (answers (is_write asks) answer → ⊥)
     ⊎ ((asks_number asks ≡ true) × (octets : List ℕ) × (answer ≡ ReadOk (carried octets)) × (length octets ≢ 4))
 
--- octets declare, or make, a set of more than 4,096 octets (own)
+-- these octets declare, or lead to, a set of more than 4,096 octets (own)
 abbrev pub IsTooLarge : Asks → List ℕ → Type 0
 IsTooLarge Size octets = (length octets ≡ 4) × (MOST_SET_OCTETS < number_of octets)
 IsTooLarge (Value entries key behind) octets = MOST_SET_OCTETS < octets_of entries + ENTRY_HEAD_OCTETS + length octets
 IsTooLarge _ octets = ⊥
 
--- octets are a list that cannot be followed: no list, or the sixteenth where it names another (own)
+-- these octets are a list that cannot be followed: no list, or the sixteenth list and it names another (own)
 abbrev pub IsBadList : Asks → List ℕ → Type 0
 IsBadList (IndexList index subindex lists keys) octets =
     ((why : ListFault) × (reading_of octets ≡ Err why))
     ⊎ ((listed : List Key) × (further : ℕ) × (reading_of octets ≡ Ok (listed, next.List further)) × (lists + 1 ≡ MOST_LISTS))
 IsBadList _ octets = ⊥
 
--- octets are to be kept: the keys of a list that has some, or a value that fits (own)
+-- these octets are kept: the keys of a list that has some, or a value that fits (own)
 abbrev pub IsToBeKept : Asks → List ℕ → Type 0
 IsToBeKept (IndexList index subindex lists keys) octets = IsTrue (begins_with_key octets)
 IsToBeKept (Value entries key behind) octets = octets_of entries + ENTRY_HEAD_OCTETS + length octets ≤ MOST_SET_OCTETS
 IsToBeKept _ octets = ⊥
 
--- the octets of an answer are few enough for a message, at most 232 (standard, ISDU)
+-- the octets of an answer fit a message: there are at most 232 (standard, ISDU)
 abbrev pub IsShort : Answer → Type 0
 IsShort (ReadOk values) = length values.items ≤ MOST_ENTRY_OCTETS
 IsShort WriteOk = Unit {0}
@@ -153,12 +156,12 @@ IsShort Busy = Unit {0}
 IsShort (ReadFault error additional) = Unit {0}
 IsShort (WriteFault error additional) = Unit {0}
 
--- an answer is to be kept (own)
+-- this answer is kept, which needs memory (own)
 abbrev pub NeedsMemory : Asks → Answer → Type 0
 NeedsMemory asks answer = (octets : List ℕ) × (answer ≡ ReadOk (carried octets)) × IsToBeKept asks octets
 
--- why an upload ends at an answer: the device refused what was asked; the answer is not to it; a size; a list; the
--- sixteenth Device busy in a row; memory, only where octets are to be kept (own)
+-- why an upload ends at an answer: the device refused the request; the answer belongs to something else; a size; a list;
+-- the sixteenth Device busy in a row; memory, only if octets are to be kept (own)
 abbrev pub IsCause : Asks → ℕ → Answer → TransferFault → Type 0
 IsCause asks busy answer (fault.Refused error additional) = answer ≡ refusal (is_write asks) error additional
 IsCause asks busy answer fault.Unexpected = IsUnexpected asks answer
@@ -167,7 +170,7 @@ IsCause asks busy answer fault.List = (octets : List ℕ) × (answer ≡ ReadOk 
 IsCause asks busy answer fault.Busy = (answer ≡ Busy) × (busy + 1 ≡ MOST_REQUESTS)
 IsCause asks busy answer fault.Memory = NeedsMemory asks answer
 
--- after a conversation the answer to the next request ends an upload in this fault (own)
+-- after this conversation the answer to the next request ends an upload with this fault (own)
 pub record EndsIn (conversation : List Exchange) (answer : Answer) (fault : TransferFault) : Type 0 where
   pub asks : Asks
   pub busy : ℕ

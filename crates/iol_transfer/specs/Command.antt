@@ -15,11 +15,11 @@ ds_command_octet DownloadStart = 3
 ds_command_octet DownloadEnd = 4
 ds_command_octet Break = 5
 
--- the command, if any, that has this octet (standard, Data Storage object)
+-- the command with this octet, if there is one (standard, Data Storage object)
 abbrev pub ds_command_of : ℕ → Option DsCommand
 ds_command_of octet =
     find (λ command. ds_command_octet command == octet) (UploadStart ∷ UploadEnd ∷ DownloadStart ∷ DownloadEnd ∷ Break ∷ [])
 
--- the request to write one octet, a command, to DS_Command (standard, Data Storage object)
+-- the request that writes one octet, a command, to DS_Command (standard, Data Storage object)
 abbrev pub commanded : DsCommand → Request
 commanded command = Write DATA_STORAGE DS_COMMAND (record { items = ds_command_octet command ∷ [] })

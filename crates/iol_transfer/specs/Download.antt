@@ -18,26 +18,27 @@ use Rattle.iol_transfer.specs.declared.download.Progress.{Progress}
 use Rattle.iol_transfer.specs.declared.download.Progress.TheVariants.{Starting, Writing}
 use Rattle.iol_transfer.specs.declared.download.Download.TheInside.{Inside}
 
--- the request to write a parameter (own)
+-- the request that writes a parameter (own)
 abbrev pub entry_written : Entry → Request
 entry_written entry = Write entry.0.index entry.0.subindex (carried entry.1)
 
--- what is written after DS_DownloadStart: these entries in order, and DS_DownloadEnd (standard, Data Storage object)
+-- the requests after DS_DownloadStart: writes of these entries in order, and DS_DownloadEnd
+-- (standard, Data Storage object)
 abbrev pub writes_of : List Entry → List Request
 writes_of entries = map entry_written entries ++ commanded DownloadEnd ∷ []
 
--- the requests of a download of a set, in order: DS_DownloadStart, a write of each entry in the set's order, and
+-- the requests of a download of a set, in order: DS_DownloadStart, a write of each entry in the order of the set, and
 -- DS_DownloadEnd (standard, Data Storage object)
 abbrev pub order_of : SetValue → List Request
 order_of set = commanded DownloadStart ∷ writes_of set.entries
 
--- a conversation is a whole download of a set: each request in order, sent again at Device busy, and at last answered (+)
--- (standard, Data Storage object)
+-- this conversation is a whole download of a set: each request in order, sent again after Device busy, and finally
+-- answered (+) (standard, Data Storage object)
 abbrev pub IsDownload : SetValue → List Exchange → Type 0
 IsDownload set conversation = Follows conversation (map done (order_of set))
 
--- after this conversation a download of a set sends this request, which was answered Device busy so many times in a row,
--- fewer than 16. Those before it in the order were sent and answered (+), and nothing else was sent (own)
+-- after this conversation a download of a set sends this request, which was answered Device busy `busy` times in a row,
+-- fewer than 16. The requests before it in the order were sent and answered (+), and nothing else was sent (own)
 pub record IsSending (set : SetValue) (conversation : List Exchange) (request : Request) (busy : ℕ) : Type 0 where
   pub sent : List Request
   pub left : List Request
@@ -47,28 +48,29 @@ pub record IsSending (set : SetValue) (conversation : List Exchange) (request : 
   pub few : busy < MOST_REQUESTS
   pub follows : Follows before (map done sent)
 
--- why a download ends at an answer: the device refused the write; the answer is not to a write; the sixteenth Device busy
--- in a row (own)
+-- why a download ends at an answer: the device refused the write; the answer is not one to a write; the sixteenth Device
+-- busy in a row (own)
 abbrev pub IsDownloadCause : ℕ → Answer → TransferFault → Type 0
 IsDownloadCause busy answer (fault.Refused error additional) = answer ≡ WriteFault error additional
 IsDownloadCause busy answer fault.Unexpected = answers true answer → ⊥
 IsDownloadCause busy answer fault.Busy = (answer ≡ Busy) × (busy + 1 ≡ MOST_REQUESTS)
 IsDownloadCause busy answer _ = ⊥
 
--- after a conversation the answer to the next request ends a download of a set in this fault (own)
+-- after this conversation the answer to the next request ends a download of a set with this fault (own)
 pub record DownloadEndsIn (set : SetValue) (conversation : List Exchange) (answer : Answer) (fault : TransferFault) : Type 0 where
   pub request : Request
   pub busy : ℕ
   pub sending : IsSending set conversation request busy
   pub cause : IsDownloadCause busy answer fault
 
--- what a download sends next: DS_DownloadStart, the write of an entry with these behind it, or DS_DownloadEnd (own)
+-- what a download sends next: DS_DownloadStart, the write of an entry that has these entries after it, or DS_DownloadEnd
+-- (own)
 pub data Sends : Type 0 where
   Opening : Sends
   Parameter : (entry : Entry) (behind : List Entry) → Sends
   Closing : Sends
 
--- a download under way: its set, what it sends, and how often in a row that was answered Device busy (own)
+-- a download in progress: its set, what it sends next, and how many times in a row that was answered Device busy (own)
 pub record Sender : Type 0 where
   pub set : SetValue
   pub sends : Sends
@@ -78,7 +80,7 @@ pub record Sender : Type 0 where
 abbrev pub begun_download : SetValue → Sender
 begun_download set = record { set = set; sends = Opening; busy = 0 }
 
--- the first of these entries is written, and DS_DownloadEnd where there is none (own)
+-- the write of the first of these entries, or DS_DownloadEnd if there is none (own)
 abbrev pub writing : List Entry → Sends
 writing [] = Closing
 writing (entry ∷ behind) = Parameter entry behind
@@ -88,34 +90,34 @@ abbrev pub sends_of : List Entry → Progress → Sends
 sends_of entries Starting = Opening
 sends_of entries (Writing place) = writing (drop place entries)
 
--- a download in memory (own)
+-- a download in memory, as a `Sender` (own)
 abbrev pub sender_of : Inside → Sender
 sender_of download =
     record { set = download.set.value; sends = sends_of download.set.value.entries download.progress; busy = download.repeats }
 
--- the request that it sends (standard, Data Storage object)
+-- the request that a download sends next (standard, Data Storage object)
 abbrev pub sent_by : Sends → Request
 sent_by Opening = commanded DownloadStart
 sent_by (Parameter entry behind) = entry_written entry
 sent_by Closing = commanded DownloadEnd
 
--- the requests that follow it (own)
+-- the requests that follow the next one (own)
 abbrev pub behind_of : SetValue → Sends → List Request
 behind_of set Opening = writes_of set.entries
 behind_of set (Parameter entry behind) = writes_of behind
 behind_of set Closing = []
 
--- what a download sends after an answer (+) (own)
+-- what a download sends next after an answer (+) (own)
 abbrev pub sends_after : SetValue → Sends → Sends
 sends_after set Opening = writing set.entries
 sends_after set (Parameter entry behind) = writing behind
 sends_after set Closing = Closing
 
--- a download's next request with an answer to it (own)
+-- the next request of a download, with an answer to it (own)
 abbrev pub answered_to : Sender → Answer → Exchange
 answered_to sender answer = record { request = sent_by sender.sends; answer = answer }
 
--- these are a download's exchanges since it began with a set (own)
+-- these are the exchanges of a download since it began with a set (own)
 pub record IsDownloading (set : SetValue) (conversation : List Exchange) (sender : Sender) : Type 0 where
   pub set_is : sender.set ≡ set
   pub sent : List Request
@@ -125,7 +127,7 @@ pub record IsDownloading (set : SetValue) (conversation : List Exchange) (sender
   pub few : sender.busy < MOST_REQUESTS
   pub follows : Follows before (map done sent)
 
--- what `feed` of a download answers, and the download then (own)
+-- the result of `feed` of a download, and the download after it (own)
 abbrev pub IsDownloadStep : Sender → Answer → DownloadStep → Sender → Type 0
 IsDownloadStep old answer step.More new =
     ((answer ≡ Busy) × (old.busy + 1 < MOST_REQUESTS)
@@ -135,19 +137,19 @@ IsDownloadStep old answer step.More new =
 IsDownloadStep old answer step.Whole new = (answer ≡ WriteOk) × (old.sends ≡ Closing)
 IsDownloadStep old answer (step.Fault why) new = IsDownloadCause old.busy answer why
 
--- this holds where a download goes on (own)
+-- this holds if a download continues (own)
 abbrev pub IfGoesOn : DownloadStep → Type 0 → Type 0
 IfGoesOn step.More holds = holds
 IfGoesOn step.Whole holds = Unit {0}
 IfGoesOn (step.Fault why) holds = Unit {0}
 
--- this holds where a download is whole (own)
+-- this holds if a download is whole (own)
 abbrev pub IfDone : DownloadStep → Type 0 → Type 0
 IfDone step.Whole holds = holds
 IfDone step.More holds = Unit {0}
 IfDone (step.Fault why) holds = Unit {0}
 
--- this holds of the fault, where a download ends in one (own)
+-- this holds of the fault, if a download ends with one (own)
 abbrev pub IfEnds : DownloadStep → (TransferFault → Type 0) → Type 0
 IfEnds (step.Fault why) holds = holds why
 IfEnds step.More holds = Unit {0}

@@ -7,7 +7,7 @@ use Rattle.iol_link.specs.declared.messages.Answer.{Answer}
 use Rattle.iol_link.specs.declared.messages.Answer.TheVariants.{ReadOk, WriteOk, Busy}
 use Rattle.iol_transfer.specs.declared.repeats.TheConstants.{MOST_REQUESTS}
 
--- a request, and what the device answered (standard, ISDU)
+-- a request, and the answer of the device (standard, ISDU)
 pub record Exchange : Type 0 where
   pub request : Request
   pub answer : Answer
@@ -20,16 +20,16 @@ carried octets = record { items = octets }
 abbrev pub done : Request → Exchange
 done request = record { request = request; answer = WriteOk }
 
--- a read of an object that is answered (+), by these octets (standard, ISDU)
+-- a read of an object that is answered (+) with these octets (standard, ISDU)
 abbrev pub read_of : ℕ → ℕ → List ℕ → Exchange
 read_of index subindex octets = record { request = Read index subindex; answer = ReadOk (carried octets) }
 
--- a request that is so many times answered Device busy (standard, ISDU)
+-- a request that is answered Device busy this number of times (standard, ISDU)
 abbrev pub busy_times : ℕ → Request → List Exchange
 busy_times times request = replicate times (record { request = request; answer = Busy })
 
--- a conversation is these settled exchanges in order, where each request was answered Device busy fewer than 16 times
--- before (own)
+-- this conversation is these settled exchanges in order, and each request was first answered Device busy fewer than
+-- 16 times (own)
 abbrev pub Follows : List Exchange → List Exchange → Type 0
 Follows conversation [] = conversation ≡ []
 Follows conversation (exchange ∷ settled) =

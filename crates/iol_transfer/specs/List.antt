@@ -1,4 +1,4 @@
--- Index_List: the keys of a device's parameters, and what is next.
+-- Index_List: the keys of a device's parameters, and what follows them.
 use Rattle.std.specs.Prelude.{◌≡◌, ℕ, ◌+◌, ◌*◌, ◌/◌, ◌%◌, ◌==◌, not, Bool, false, if◌then◌else◌, List, [], ◌∷◌, ◌++◌, Result, Ok, Err, All}
 use Rattle.std.specs.Prelude.{filter}
 use Rattle.std.specs.List.{flat_map, list_any, IsDistinct}
@@ -17,25 +17,25 @@ index_of high low = high * 256 + low
 abbrev pub key_of : ℕ → ℕ → ℕ → Key
 key_of high low subindex = record { index = index_of high low; subindex = subindex }
 
--- what a list says: its keys in order, and what is next (own)
+-- the contents of a list: its keys in order, and what follows them (own)
 abbrev pub Listing : Type 0
 Listing = List Key × Next
 
--- a key is listed before the others, where those can be read (own)
+-- the contents of a list with this key before the others, if the others can be read (own)
 abbrev pub listed_before : Key → Result Listing ListFault → Result Listing ListFault
 listed_before key (Ok said) = Ok (key ∷ said.0, said.1)
 listed_before key (Err fault) = Err fault
 
--- what the Index at an entry's place makes of what is said there: 0000 ends the list, 0002 and 0003 are reserved, and with
--- any other it stands (own)
+-- the contents of a list from an entry with this Index on: 0000 ends the list, 0002 and 0003 are reserved, and with any
+-- other Index the given contents are kept (own)
 abbrev pub at_index : ℕ → Result Listing ListFault → Result Listing ListFault
 at_index index said =
     if index == 0 then Ok ([], next.End)
     else if is_reserved (record { index = index; subindex = 0 }) then Err ReservedKey
     else said
 
--- what stands at an entry's place and behind it: no octet ends the list; one is too few; two are the Index of the next
--- list; three or more begin with an entry (own)
+-- the contents of a list from these octets on: no octet ends the list; one is too few; two are the Index of the next list;
+-- three or more begin with an entry (own)
 abbrev pub listing_of : List ℕ → Result Listing ListFault
 listing_of [] = Ok ([], next.End)
 listing_of (octet ∷ []) = Err Truncated
@@ -43,28 +43,28 @@ listing_of (high ∷ low ∷ []) = at_index (index_of high low) (Ok ([], next.Li
 listing_of (high ∷ low ∷ subindex ∷ behind) =
     at_index (index_of high low) (listed_before (key_of high low subindex) (listing_of behind))
 
--- each key at its first place (own)
+-- these keys, each only at its first place (own)
 abbrev pub first_places : List Key → List Key
 first_places [] = []
 first_places (key ∷ keys) = key ∷ filter (λ other. not (same_key key other)) (first_places keys)
 
--- what a list says with each key at its first place alone (own)
+-- the contents of a list with each key only at its first place (own)
 abbrev pub at_first_places : Result Listing ListFault → Result Listing ListFault
 at_first_places (Ok said) = Ok (first_places said.0, said.1)
 at_first_places (Err fault) = Err fault
 
--- what is read of the octets of an Index_List: each key at its first place, and what is next, or the first fault (format,
--- Index list)
+-- the result of reading the octets of an Index_List: each key at its first place, and what follows the keys, or the first
+-- fault (format, Index list)
 abbrev pub reading_of : List ℕ → Result Listing ListFault
 reading_of octets = at_first_places (listing_of octets)
 
--- keys that are read of a list: each in its ranges, none reserved, and none there twice (own)
+-- keys that are read from a list: each in its ranges, none reserved, and none twice (own)
 pub record AreReadKeys (keys : List Key) : Type 0 where
   pub each : All IsKey keys
   pub free : All (λ key. is_reserved key ≡ false) keys
   pub distinct : IsDistinct same_key keys
 
--- the octets begin with an entry whose key is not reserved (own)
+-- these octets begin with an entry whose key is not reserved (own)
 abbrev pub begins_with_key : List ℕ → Bool
 begins_with_key (high ∷ low ∷ subindex ∷ behind) = not (is_reserved (key_of high low subindex))
 begins_with_key _ = false
@@ -77,12 +77,12 @@ two_octets index = index / 256 ∷ index % 256 ∷ []
 abbrev pub key_octets : Key → List ℕ
 key_octets key = two_octets key.index ++ key.subindex ∷ []
 
--- the octets of what is next: 0000 at the end, else the Index of the next list (own)
+-- the octets of what follows the keys: 0000 at the end, else the Index of the next list (own)
 abbrev pub next_octets : Next → List ℕ
 next_octets next.End = two_octets 0
 next_octets (next.List index) = two_octets index
 
--- the octets of an Index_List with these keys in order, and with what is next (format, Index list)
+-- the octets of an Index_List with these keys in order, and what follows them (format, Index list)
 abbrev pub list_octets : List Key → Next → List ℕ
 list_octets keys next = flat_map key_octets keys ++ next_octets next
 
@@ -90,11 +90,11 @@ list_octets keys next = flat_map key_octets keys ++ next_octets next
 abbrev pub is_among : List Key → Key → Bool
 is_among keys key = list_any (λ other. same_key other key) keys
 
--- a key behind others, where it is not among them (own)
+-- these keys and a further one after them, unless it is among them (own)
 abbrev pub kept_with : List Key → Key → List Key
 kept_with keys key = if is_among keys key then keys else keys ++ key ∷ []
 
--- a list may name this as what is next: its end, or an Index that is not reserved (own)
+-- a list may be followed by this: its end, or an Index that is not reserved (own)
 abbrev pub CanFollow : Next → Type 0
 CanFollow next.End = Unit {0}
 CanFollow (next.List index) = is_reserved (record { index = index; subindex = 0 }) ≡ false

@@ -1,9 +1,9 @@
--- State_Property: what its octet says of a device's Data Storage.
+-- State_Property: the meaning of its octet.
 use Rattle.std.specs.Prelude.{ℕ, ◌/◌, ◌%◌, ◌==◌, Bool, if◌then◌else◌}
 use Rattle.iol_transfer.specs.declared.property.State.{State}
 use Rattle.iol_transfer.specs.declared.property.State.TheVariants.{Inactive, Upload, Download, Locked}
 
--- what is read of State_Property: the state, and DS_UPLOAD_FLAG (standard, Data Storage object)
+-- the values that are read from State_Property: the state, and DS_UPLOAD_FLAG (standard, Data Storage object)
 pub record PropertyValue : Type 0 where
   pub state : State
   pub flag : Bool
@@ -12,6 +12,6 @@ pub record PropertyValue : Type 0 where
 abbrev pub state_of : ℕ → State
 state_of number = if number == 0 then Inactive else if number == 1 then Upload else if number == 2 then Download else Locked
 
--- the state in bits 1 and 2 of State_Property, DS_UPLOAD_FLAG in bit 7 (standard, Data Storage object)
+-- the state is in bits 1 and 2 of State_Property, DS_UPLOAD_FLAG in bit 7 (standard, Data Storage object)
 abbrev pub property_of : ℕ → PropertyValue
 property_of octet = record { state = state_of (octet / 2 % 4); flag = octet / 128 % 2 == 1 }

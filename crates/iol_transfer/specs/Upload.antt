@@ -15,16 +15,17 @@ use Rattle.iol_transfer.specs.Command.{commanded}
 use Rattle.iol_transfer.specs.Exchanges.{Exchange, done, read_of, Follows}
 use Rattle.iol_transfer.specs.declared.upload.TheConstants.{MOST_LISTS}
 
--- the number of four octets, most significant octet first (standard, Data Storage object)
+-- the number that four octets are, most significant octet first (standard, Data Storage object)
 abbrev pub number_of : List ℕ → ℕ
 number_of octets = from_be_bytes w32 octets
 
--- octets of a Data_Storage_Size that an upload takes: four, and at most 4,096 (standard, Data Storage object)
+-- octets of a Data_Storage_Size that an upload accepts: four, with a value of at most 4,096
+-- (standard, Data Storage object)
 pub record IsSize (octets : List ℕ) : Type 0 where
   pub four : length octets ≡ 4
   pub fits : number_of octets ≤ MOST_SET_OCTETS
 
--- what follows a list: nothing where the list ends, else the reads that begin with the next list (own)
+-- what follows a list: nothing if the list ends, else the reads that begin with the next list (own)
 abbrev pub FollowsList : Next → Type 0 → (ℕ → Type 0) → Type 0
 FollowsList next.End nothing reads = nothing
 FollowsList (next.List index) nothing reads = reads index
@@ -39,7 +40,7 @@ AreLists index subindex (exchange ∷ more) keys =
     × FollowsList next ((more ≡ []) × (keys ≡ listed))
     (λ further. (others : List Key) × AreLists further 0 more others × (keys ≡ listed ++ others))
 
--- what an upload begins with: DS_UploadStart, the declared size, and lists (own)
+-- the first exchanges of an upload: DS_UploadStart, the declared size, and lists (own)
 abbrev pub opening : List ℕ → List Exchange → List Exchange
 opening size lists = done (commanded UploadStart) ∷ read_of DATA_STORAGE DATA_STORAGE_SIZE size ∷ lists
 
@@ -47,8 +48,8 @@ opening size lists = done (commanded UploadStart) ∷ read_of DATA_STORAGE DATA_
 abbrev pub entry_read : Entry → Exchange
 entry_read entry = read_of entry.0.index entry.0.subindex entry.1
 
--- these settled exchanges are an upload of a set: DS_UploadStart, the declared size, the index lists, each key that is
--- listed, at its first place, and the checksum (standard, Data Storage object)
+-- these settled exchanges are an upload of a set: DS_UploadStart, the declared size, the index lists, each listed key,
+-- at its first place, and the checksum (standard, Data Storage object)
 pub record IsUpload (set : SetValue) (settled : List Exchange) : Type 0 where
   pub size : List ℕ
   pub lists : List Exchange
@@ -64,7 +65,7 @@ pub record IsUpload (set : SetValue) (settled : List Exchange) : Type 0 where
   pub sum : set.checksum ≡ number_of checksum
   pub set_is : IsSet set
 
--- a conversation is a finished upload of a set from a device with these numbers (standard, Data Storage object)
+-- this conversation is a finished upload of a set from a device with these numbers (standard, Data Storage object)
 pub record IsFinished (vendor device : ℕ) (conversation : List Exchange) (set : SetValue) : Type 0 where
   pub settled : List Exchange
   pub follows : Follows conversation settled

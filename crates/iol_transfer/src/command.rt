@@ -7,7 +7,8 @@ use arrayvec::ArrayVec;
 use iol_link::Request;
 use iol_types::DATA_STORAGE;
 
-/// What a master tells the Data Storage of a device (IO-Link V1.1, Data Storage object, DS_Command).
+/// A command of the master to the Data Storage of a device (IO-Link V1.1, Data Storage object,
+/// DS_Command).
 #[derive(Clone, Copy)]
 pub enum DsCommand {
     /// DS_UploadStart, octet 1.
@@ -23,7 +24,7 @@ pub enum DsCommand {
 }
 
 impl DsCommand {
-    /// The command with this octet, or `None` at 0 and above 5.
+    /// The command with this octet, or `None` for 0 and for octets above 5.
     pub fn from_octet(octet: u8) -> Option<DsCommand>
         ensures { result ≡ ds_command_of octet }
     {
@@ -50,7 +51,7 @@ impl DsCommand {
         }
     }
 
-    /// The request to write the command to the Data Storage of a device.
+    /// The request that writes the command to the Data Storage of a device.
     pub fn request(self) -> Request
         ensures { result ≡ commanded self }
     {

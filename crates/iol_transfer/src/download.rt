@@ -14,28 +14,28 @@ use iol_types::{DataSet, Key};
 use std::marker::Model;
 use std::sync::Arc;
 
-/// What an answer makes of a download.
+/// The effect of an answer on a download.
 #[derive(Drop)]
 pub enum DownloadStep {
-    /// It goes on with the next request.
+    /// It continues with the next request.
     More,
     /// It has ended: the device has the whole set.
     Whole,
-    /// It has ended before.
+    /// It has ended before the device had the whole set.
     Fault(TransferFault),
 }
 
-// What is sent next.
+// The next request of a download.
 #[derive(Drop)]
 enum Progress {
     // DS_DownloadStart.
     Starting,
-    // The entry at a place; behind the last one DS_DownloadEnd.
+    // The entry at this place; after the last entry, DS_DownloadEnd.
     Writing { place: usize },
 }
 
-/// A download under way. It takes no memory. A contract sees the record `Sender` of `specs/Download.antt`, and says what it
-/// means of the exchanges since it began.
+/// A download in progress. It allocates no memory. A contract sees the record `Sender` of `specs/Download.antt`, and says
+/// what it means for the exchanges since the download began.
 #[derive(Drop)]
 pub struct Download {
     set: Arc<DataSet>,
@@ -57,7 +57,7 @@ impl Download {
     ghost use Rattle.iol_transfer.specs.Download.{IsDownload, IsSending, DownloadEndsIn, begun_download, sent_by, writing, answered_to};
     ghost use Rattle.iol_transfer.specs.Download.{IsDownloading, IsDownloadStep, IfGoesOn, IfDone, IfEnds};
 
-    /// A download of this set.
+    /// Begins a download of this set.
     pub fn begin(set: Arc<DataSet>) -> Download
         ensures begun { result ≡ begun_download set.value }
         ensures since { IsDownloading set.value [] result }
@@ -69,7 +69,7 @@ impl Download {
         }
     }
 
-    /// The request to send: that which is next in the order of a download of the set, where each before it was answered (+).
+    /// The request to send: the next one in the order of a download of the set, after each earlier one was answered (+).
     pub fn next(&self) -> Request
         ensures sent { result ≡ sent_by self.now.sends }
         ensures order { (set : SetValue) (conversation : List Exchange) → IsDownloading set conversation self.now
@@ -78,14 +78,14 @@ impl Download {
         self.request()
     }
 
-    /// Takes the answer to the request that was next. A download that has ended is fed no more: what it sends then says
-    /// nothing.
+    /// Takes the answer to the request that was next. A download that has ended must not be given more answers; its next
+    /// request then has no meaning.
     ///
-    /// `Whole` comes exactly where DS_DownloadEnd was answered (+): the exchanges since [`begin`](Download::begin) are then a
-    /// whole download of the set.
+    /// `Whole` is returned exactly if DS_DownloadEnd was answered (+): the exchanges since [`begin`](Download::begin) are
+    /// then a whole download of the set.
     ///
     /// # Errors
-    /// The step `Fault` comes only on its cause, and is `Refused`, `Unexpected` or `Busy`.
+    /// The step `Fault` is returned only for its cause, and is `Refused`, `Unexpected` or `Busy`.
     pub fn feed(&mut self, answer: Answer) -> DownloadStep
         ensures step { IsDownloadStep self.old answer result self.new }
         ensures more { IfGoesOn result ((set : SetValue) (conversation : List Exchange) → IsDownloading set conversation self.old
@@ -100,7 +100,7 @@ impl Download {
         self.take(answer)
     }
 
-    // The request for what is sent next.
+    // Builds the request that is sent next.
     fn request(&self) -> Request
         ensures { result ≡ sent_by self.now.sends }
     {
@@ -131,7 +131,7 @@ impl Download {
         }
     }
 
-    // After an answer (+).
+    // The step after an answer (+).
     fn written(&mut self) -> DownloadStep
         ensures { IsDownloadStep self.old Answer.WriteOk result self.new }
     {
@@ -147,7 +147,7 @@ impl Download {
         }
     }
 
-    // Goes on to the entry at a place.
+    // Continues with the entry at this place.
     fn go_on(&mut self, place: usize) -> DownloadStep
         ensures step { result ≡ DownloadStep.More }
         ensures sender { self.new ≡ record { set = self.old.set; sends = writing (drop place self.old.set.entries); busy = 0 } }
@@ -158,7 +158,7 @@ impl Download {
     }
 }
 
-// The request to write a parameter.
+// The request that writes a parameter.
 fn write(key: Key, octets: &[u8]) -> Request
     requires { length octets.now ≤ DATA_OCTETS }
     ensures { result ≡ entry_written (key, octets.now) }

@@ -1,5 +1,5 @@
-//! Limits and conversations of the standard (IO-Link V1.1, Data Storage object), worked out by the check: a number that is
-//! wrong in a definition and in the code alike is refused here.
+//! Limits and conversations of the standard (IO-Link V1.1, Data Storage object), worked out by the check, which rejects a
+//! number that is wrong in both a definition and the code.
 
 ghost use Rattle.std.specs.Prelude.{◌≡◌, ℕ, List, [], ◌∷◌, map, replicate};
 ghost use Rattle.arrayvec.specs.ArrayVec.{ArrayVec};
@@ -17,20 +17,21 @@ ghost use Rattle.iol_transfer.specs.declared.fault.TransferFault.TheVariants as 
 ghost use Rattle.iol_transfer.specs.declared.repeats.TheConstants.{MOST_REQUESTS};
 ghost use Rattle.iol_transfer.specs.declared.upload.TheConstants.{MOST_LISTS};
 
-/// A request is sent sixteen times at most, and sixteen lists are read at most.
+/// A request is sent at most sixteen times, and at most sixteen lists are read.
 pub fn limits()
     ensures requests { MOST_REQUESTS ≡ 16 }
     ensures lists { MOST_LISTS ≡ 16 }
 {}
 
-/// What an upload asks of the Data Storage object: a write of 01 to Subindex 1, and reads of Subindexes 3 and 4.
+/// The requests of an upload to the Data Storage object: a write of 01 to Subindex 1, and reads of Subindexes 3 and 4.
 pub fn requests_of_an_upload()
     ensures start { request_of Start ≡ request.Write 3 1 (carried (0x01 ∷ [])) }
     ensures size { request_of Size ≡ request.Read 3 3 }
     ensures checksum { (entries : List Entry) → request_of (Checksum entries) ≡ request.Read 3 4 }
 {}
 
-/// The requests of a download of two parameters: a write of 03 to Subindex 1, the parameters in order, and a write of 04.
+/// The requests of a download of two parameters: a write of 03 to Subindex 1, a write of each parameter in order, and a
+/// write of 04.
 pub fn requests_of_a_download()
     ensures { order_of (record {
       entries = (record { index = 0x0040; subindex = 0x00 }, 0x0A ∷ 0x64 ∷ []) ∷
@@ -72,7 +73,7 @@ pub fn a_busy_device()
     ensures sixteenth { step (example_upload Start 15) answer.Busy ≡ Fault fault.Busy }
 {}
 
-/// A declared size is four octets, and at most 4,096; a checksum is four octets.
+/// A declared size has four octets and is at most 4,096; a checksum has four octets.
 pub fn numbers()
     ensures most { step (example_upload Size 0) (answer.ReadOk (carried (0x00 ∷ 0x00 ∷ 0x10 ∷ 0x00 ∷ [])))
         ≡ More (example_upload (IndexList 3 5 0 []) 0) }
@@ -97,7 +98,7 @@ pub fn lists()
         ((0x00 ∷ []) ∷ (0x00 ∷ 0x02 ∷ []) ∷ (0x00 ∷ 0x03 ∷ 0x01 ∷ 0x00 ∷ 0x00 ∷ []) ∷ []) ≡ replicate 3 (Fault fault.List) }
 {}
 
-/// The device refuses what was asked, or answers something else.
+/// The device refuses the request, or its answer belongs to another service.
 pub fn other_answers()
     ensures write { step (example_upload Start 0) (answer.WriteFault 0x80 0x23) ≡ Fault (fault.Refused 0x80 0x23) }
     ensures read { (key : Key) → step (example_upload (Value [] key []) 0) (answer.ReadFault 0x80 0x11) ≡ Fault (fault.Refused 0x80 0x11) }

@@ -1,5 +1,5 @@
-//! Octets of the Data Storage object, worked out by the check: a number that is wrong in a definition and in the code alike
-//! is refused here. The octets of lists are of docs/FORMATS.md, and the tests read them too.
+//! Octets of the Data Storage object, worked out by the check, which rejects a number that is wrong in both a definition
+//! and the code. The octets of lists are those of docs/FORMATS.md, and the tests read them too.
 
 ghost use Rattle.std.specs.Prelude.{◌≡◌, [], ◌∷◌, map, fold, Some, None, Ok, Err, true, false};
 ghost use Rattle.iol_types.specs.declared.key.Key.{Key};
@@ -18,9 +18,9 @@ use crate::property::State;
 
 /// A list without a key.
 pub const NO_KEY: [u8; 2] = [0x00, 0x00];
-/// A list that ends with its octets, behind 0040.
+/// A list with key 0040, which ends with its octets.
 pub const ONE_KEY: [u8; 3] = [0x00, 0x40, 0x00];
-/// A list that ends at 0000, behind 0040, with octets that are not read.
+/// A list with key 0040 that ends at 0000, with further octets that are not read.
 pub const ONE_KEY_AND_MORE: [u8; 7] = [0x00, 0x40, 0x00, 0x00, 0x00, 0xFF, 0xFF];
 /// A list with one octet too many.
 pub const BROKEN_OFF: [u8; 4] = [0x00, 0x40, 0x00, 0x00];
@@ -53,7 +53,7 @@ pub fn commands()
         ≡ request.Write 3 1 (record { items = 0x01 ∷ [] }) ∷ request.Write 3 1 (record { items = 0x05 ∷ [] }) ∷ [] }
 {}
 
-/// The state stands in bits 1 and 2, DS_UPLOAD_FLAG in bit 7, and the other bits are ignored.
+/// The state is in bits 1 and 2, DS_UPLOAD_FLAG is in bit 7, and the other bits are ignored.
 pub fn properties()
     ensures states { map (λ octet. (property_of octet).state) (0x00 ∷ 0x02 ∷ 0x04 ∷ 0x06 ∷ [])
         ≡ State.Inactive ∷ State.Upload ∷ State.Download ∷ State.Locked ∷ [] }
@@ -66,7 +66,7 @@ pub fn properties()
     ensures all { property_of 0xFF ≡ record { state = State.Locked; flag = true } }
 {}
 
-/// What is read of lists.
+/// The keys and the next list that are read from lists.
 pub fn lists()
     ensures no_octet { reading_of [] ≡ Ok ([], Next.End) }
     ensures no_key { reading_of NO_KEY ≡ Ok ([], Next.End) }
@@ -92,7 +92,7 @@ pub fn keys_of_two_lists()
         ≡ key_of 0x00 0x40 0x00 ∷ key_of 0x00 0x41 0x01 ∷ key_of 0x00 0x41 0x02 ∷ [] }
 {}
 
-/// Octets that are no list.
+/// Octets that are not a list.
 pub fn list_faults()
     ensures one_octet { reading_of (0x00 ∷ []) ≡ Err ListFault.Truncated }
     ensures broken_off { reading_of BROKEN_OFF ≡ Err ListFault.Truncated }
@@ -102,7 +102,7 @@ pub fn list_faults()
     ensures first_met { reading_of (0x00 ∷ 0x02 ∷ 0x00 ∷ 0x00 ∷ []) ≡ Err ListFault.ReservedKey }
 {}
 
-/// What is written of lists.
+/// The octets that are written for lists.
 pub fn written_lists()
     ensures no_key { list_octets [] Next.End ≡ NO_KEY }
     ensures further_list { list_octets (record { index = 0x0040; subindex = 0x00 } ∷ []) (Next.List 0x1200) ≡ FURTHER_LIST }

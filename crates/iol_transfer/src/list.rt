@@ -1,8 +1,9 @@
-//! What an Index_List says besides its keys, and why octets are none.
+//! The contents of an Index_List besides its keys, and the faults of its octets.
 
 use thiserror::Error;
 
-/// The most keys that a list has where it is written in one object of at most 232 octets, with what is next.
+/// The most keys of a list that is written in one object of at most 232 octets, together with what follows
+/// the keys.
 pub const MOST_LISTED_KEYS: usize = 76;
 
 /// What follows the keys of an Index_List.
@@ -14,13 +15,13 @@ pub enum Next {
     List(u16),
 }
 
-/// Why octets are no Index_List that can be kept: what is met first.
+/// The reasons why octets are not an Index_List that can be kept. The first one that is found is reported.
 #[derive(Clone, Copy, Debug, PartialEq, Eq, Error)]
 pub enum ListFault {
-    /// One octet is left where an entry or the list's end is to stand.
+    /// One octet is left where an entry or the end of the list should be.
     #[error("a list that breaks off")]
     Truncated,
-    /// An Index that no set holds, 0x0002 or 0x0003, as an entry or as the next list.
+    /// An Index that no set contains, 0x0002 or 0x0003, is an entry or the next list.
     #[error("a reserved Index")]
     ReservedKey,
     /// Out of memory.

@@ -1,10 +1,11 @@
-//! State_Property: what the Data Storage of a device does, and whether it wants an upload.
+//! State_Property: the state of the Data Storage of a device, and whether it requests an upload.
 ghost use Rattle.std.specs.Prelude.{◌≡◌};
 ghost use Rattle.iol_transfer.specs.Property.{property_of};
 
 use std::marker::Model;
 
-/// What the Data Storage of a device does (IO-Link V1.1, Data Storage object, State_Property, bits 1 and 2).
+/// The state of the Data Storage of a device (IO-Link V1.1, Data Storage object, State_Property, bits 1 and
+/// 2).
 #[derive(Clone, Copy, Debug, PartialEq, Eq)]
 pub enum State {
     /// Inactive, 0.
@@ -17,8 +18,8 @@ pub enum State {
     Locked,
 }
 
-/// What State_Property says (IO-Link V1.1, Data Storage object). A contract sees the record `PropertyValue` of
-/// `specs/Property.antt`.
+/// The contents of State_Property (IO-Link V1.1, Data Storage object). A contract sees the record
+/// `PropertyValue` of `specs/Property.antt`.
 #[derive(Clone, Copy)]
 pub struct StateProperty {
     state: State,
@@ -36,7 +37,7 @@ impl Model for StateProperty {
 }
 
 impl StateProperty {
-    /// Reads the octet of State_Property. Each octet can be read; bits 0 and 3 to 6 are ignored.
+    /// Reads the octet of State_Property. Every octet can be read; bits 0 and 3 to 6 are ignored.
     pub fn read(octet: u8) -> StateProperty
         ensures { result ≡ property_of octet }
     {
@@ -52,14 +53,14 @@ impl StateProperty {
         }
     }
 
-    /// What the Data Storage does.
+    /// The state of the Data Storage.
     pub fn state(&self) -> State
         ensures { result ≡ self.now.state }
     {
         self.state
     }
 
-    /// DS_UPLOAD_FLAG: the device wants its parameters to be uploaded.
+    /// DS_UPLOAD_FLAG: the device requests an upload of its parameters.
     pub fn flag(&self) -> bool
         ensures { result ≡ self.now.flag }
     {

@@ -1,4 +1,4 @@
-//! Octets to an Index_List.
+//! Octets are read as an Index_List.
 ghost use Rattle.std.specs.Prelude.{◌≡◌, ◌⊎◌, ◌<◌, [], length, Ok, Err, IfOk, IfErr, OnOk, OnErr, IsTrue, false};
 ghost use Rattle.iol_transfer.specs.List.{listing_of, reading_of, AreReadKeys, begins_with_key, is_among, kept_with};
 
@@ -6,11 +6,11 @@ use crate::list::{ListFault, Next};
 use iol_types::Key;
 use std::alloc::Global;
 
-/// Reads the octets of one Index_List: the keys in the order of their first places, and what is next (IO-Link V1.1, Data
-/// Storage object, Index_List).
+/// Reads the octets of one Index_List and returns the keys in the order of their first places, and what follows them
+/// (IO-Link V1.1, Data Storage object, Index_List).
 ///
 /// # Errors
-/// The first that is met from the front. `Memory` only where a key was to be kept.
+/// The first fault from the front. `Memory` occurs only if there was a key to keep.
 pub fn read_index_list(alloc: Global, octets: &[u8]) -> Result<(Vec<Key>, Next), ListFault>
     ensures read { IfOk result (λ list. reading_of octets.now ≡ Ok (list.0.items, list.1)) }
     ensures keys { IfOk result (λ list. AreReadKeys list.0.items) }
@@ -38,7 +38,7 @@ pub fn read_index_list(alloc: Global, octets: &[u8]) -> Result<(Vec<Key>, Next),
     Ok((keys, next))
 }
 
-// What is next, where too few octets are left for an entry.
+// What follows the keys, if too few octets are left for another entry.
 fn next_in(octets: &[u8]) -> Result<Next, ListFault>
     requires { length octets.now < 3 }
     ensures next { IfOk result (λ next. listing_of octets.now ≡ Ok ([], next)) }
@@ -62,11 +62,11 @@ fn next_in(octets: &[u8]) -> Result<Next, ListFault>
     }
 }
 
-/// Keeps a key behind the others, where it is not among them: a key that is named twice, in one list or in two, counts at
-/// its first place.
+/// Keeps a key after the others, unless it is among them: a key that is named twice, in one list or in two, is kept only
+/// at its first place.
 ///
 /// # Errors
-/// `Memory` where it is to be kept and there is none; the keys are then as they were.
+/// `Memory` if the key is new and it is out of memory; the keys are then unchanged.
 pub fn keep_key(keys: &mut Vec<Key>, key: Key) -> Result<(), ListFault>
     ensures kept { OnOk result (keys.new.items ≡ kept_with keys.old.items key) }
     ensures memory { IfErr result (λ fault. fault ≡ ListFault.Memory) }

@@ -1,4 +1,4 @@
-//! How far an upload is, and what octets that were read make of it.
+//! The stages of an upload, and the stage that follows after octets were read.
 ghost use Rattle.std.specs.Prelude.{◌≡◌, ◌≢◌, ◌⊎◌, ◌<◌, ◌∷◌, List, Ok, Err, IfOk, IfErr, OnOk, IsTrue, length, fold, drop};
 ghost use Rattle.iol_types.specs.DataSet.{Entry};
 ghost use Rattle.iol_types.specs.declared.key.Key.{Key};
@@ -19,21 +19,22 @@ use crate::upload::MOST_LISTS;
 use iol_types::{AddFault, DATA_STORAGE, Key, MOST_SET_OCTETS, SetBuilder};
 use std::alloc::Global;
 
-// What an upload asks next.
+// The next request of an upload.
 #[derive(Drop)]
 pub(crate) enum UploadStage {
-    // That the upload starts.
+    // It starts the upload.
     Starting,
-    // The declared size.
+    // It reads the declared size.
     Sizing,
-    // The list at an address, after so many lists with these keys.
+    // It reads the list at this address, after `lists` lists with these keys.
     Listing {
         index: u16,
         subindex: u8,
         lists: u8,
         keys: Vec<Key>,
     },
-    // The key at a place, after those before it were read; behind the last one the checksum.
+    // It reads the key at this place, after those before it were read; after the last key, it reads
+    // the checksum.
     Reading {
         keys: Vec<Key>,
         place: usize,
@@ -41,7 +42,7 @@ pub(crate) enum UploadStage {
     },
 }
 
-// The number of four octets.
+// The number that four octets are.
 pub(crate) fn number(octets: &[u8]) -> Result<u32, TransferFault>
     ensures number { IfOk result (λ number. (length octets.now ≡ 4) × (number ≡ number_of octets.now)) }
     ensures fault { IfErr result (λ why. (why ≡ TransferFault.Unexpected) × (length octets.now ≢ 4)) }
@@ -54,7 +55,7 @@ pub(crate) fn number(octets: &[u8]) -> Result<u32, TransferFault>
     }
 }
 
-// After the declared size.
+// The stage after the declared size was read.
 pub(crate) fn size_read(alloc: Global, octets: &[u8]) -> Result<UploadStage, TransferFault>
     ensures stage { (machine : Machine) → IsStageAfter machine (ReadOk (carried octets.now)) result (after_size machine octets.now) }
     ensures ranges { IfOk result IsStage }
@@ -70,7 +71,7 @@ pub(crate) fn size_read(alloc: Global, octets: &[u8]) -> Result<UploadStage, Tra
     })
 }
 
-// After a list.
+// The stage after a list was read.
 pub(crate) fn list_read(
     alloc: Global,
     index: u16,
@@ -108,7 +109,7 @@ pub(crate) fn list_read(
     }
 }
 
-// After a value.
+// The stage after a value was read.
 pub(crate) fn value_read(
     keys: Vec<Key>,
     place: usize,
@@ -133,7 +134,7 @@ pub(crate) fn value_read(
     }
 }
 
-// The keys of a list, and what is next.
+// The keys of a list, and what follows them.
 fn list_in(alloc: Global, octets: &[u8]) -> Result<(Vec<Key>, Next), TransferFault>
     ensures read { IfOk result (λ list. reading_of octets.now ≡ Ok (list.0.items, list.1)) }
     ensures fault { IfErr result (λ why. ((why ≡ TransferFault.Memory) × IsTrue (begins_with_key octets.now))
@@ -147,7 +148,7 @@ fn list_in(alloc: Global, octets: &[u8]) -> Result<(Vec<Key>, Next), TransferFau
     }
 }
 
-// Keeps keys behind others, where they are not among them.
+// Keeps each key after the others, unless it is among them.
 fn keep_all(keys: &mut Vec<Key>, listed: &[Key]) -> Result<(), TransferFault>
     ensures kept { OnOk result (keys.new.items ≡ fold kept_with keys.old.items listed.now) }
     ensures memory { IfErr result (λ why. (why ≡ TransferFault.Memory) × (0 < length listed.now)) }

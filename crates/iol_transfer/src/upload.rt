@@ -17,22 +17,22 @@ use iol_types::{DATA_STORAGE, DataSet, DeviceId, SetBuilder};
 use std::alloc::Global;
 use std::marker::Model;
 
-/// How many index lists an upload reads at most.
+/// The most index lists that an upload reads.
 pub const MOST_LISTS: u8 = 16;
 
-/// What an answer makes of an upload.
+/// The effect of an answer on an upload.
 #[derive(Drop)]
 pub enum UploadStep {
-    /// It goes on with the next request.
+    /// It continues with the next request.
     More,
     /// It has ended with one whole set.
     Whole(DataSet),
-    /// It has ended with none.
+    /// It has ended without a set.
     Fault(TransferFault),
 }
 
-/// An upload under way. A contract sees the record `Machine` of `specs/Machine.antt`, and says what it means of the
-/// exchanges since it began.
+/// An upload in progress. A contract sees the record `Machine` of `specs/Machine.antt`, and says what it means for the
+/// exchanges since the upload began.
 #[derive(Drop)]
 pub struct Upload {
     alloc: Global,
@@ -59,7 +59,7 @@ impl Upload {
     ghost use Rattle.iol_transfer.specs.Machine.{asked, answered, step, after_read, after_write, after_busy, after_checksum, IsSinceBegin};
     ghost use Rattle.iol_transfer.specs.Fields.{IsStage, IfMore, IfFault, IsWholeOrMemory, GoesOn};
 
-    /// An upload from a device with these numbers, which takes memory for its keys and values.
+    /// Begins an upload from a device with these numbers. It allocates memory for its keys and values.
     pub fn begin(alloc: Global, vendor: u16, device: DeviceId) -> Upload
         ensures { IsSinceBegin vendor device [] result }
     {
@@ -72,7 +72,7 @@ impl Upload {
         }
     }
 
-    /// The request to send: that which is next in the order of an upload, for the answers so far.
+    /// The request to send: the next one in the order of an upload, given the answers so far.
     pub fn next(&self) -> Request
         ensures asked { result ≡ asked self.now }
         ensures order { (vendor device : ℕ) (conversation : List Exchange) → IsSinceBegin vendor device conversation self.now
@@ -81,14 +81,15 @@ impl Upload {
         self.request()
     }
 
-    /// Takes the answer to the request that was next. An upload that has ended is fed no more: what it asks then says nothing.
+    /// Takes the answer to the request that was next. An upload that has ended must not be given more answers; its next
+    /// request then has no meaning.
     ///
-    /// `Whole` comes exactly where the exchanges since [`begin`](Upload::begin) are a finished upload of that set, unless
+    /// `Whole` is returned exactly if the exchanges since [`begin`](Upload::begin) are a finished upload of that set, unless
     /// memory ran out.
     ///
     /// # Errors
-    /// The step `Fault` comes only on its cause, as [`TransferFault`] says; `Memory` only where keys or a value were to be
-    /// kept.
+    /// The step `Fault` is returned only for its cause, as [`TransferFault`] says; `Memory` only if there were keys or a value
+    /// to keep.
     pub fn feed(&mut self, answer: Answer) -> UploadStep
         ensures step { IsOutcome self.old answer result self.new (step self.old answer) }
         ensures more { IfMore result ((vendor device : ℕ) (conversation : List Exchange) → IsSinceBegin vendor device conversation self.old
@@ -106,7 +107,7 @@ impl Upload {
         self.take(answer)
     }
 
-    // The request for what is asked next.
+    // Builds the request that is sent next.
     fn request(&self) -> Request
         ensures { result ≡ asked self.now }
     {
@@ -152,14 +153,14 @@ impl Upload {
         }
     }
 
-    // Whether it asks by a write.
+    // Whether the next request is a write.
     fn writes(&self) -> bool
         ensures { result ≡ is_write self.now.asks }
     {
         matches!(&self.stage, UploadStage::Starting)
     }
 
-    // After Device busy.
+    // The step after Device busy.
     fn wait(&mut self) -> UploadStep
         ensures step { IsOutcome self.old answer.Busy result self.new (after_busy self.old) }
         ensures set { IfWhole result IsSet }
@@ -170,7 +171,7 @@ impl Upload {
         }
     }
 
-    // After a write.
+    // The step after a write was answered (+).
     fn written(&mut self) -> UploadStep
         ensures step { IsOutcome self.old answer.WriteOk result self.new (after_write self.old self.old.asks) }
         ensures set { IfWhole result IsSet }
@@ -183,7 +184,7 @@ impl Upload {
         UploadStep::More
     }
 
-    // After octets that were read.
+    // The step after octets were read.
     fn read(&mut self, octets: &[u8]) -> UploadStep
         ensures step { IsOutcome self.old (answer.ReadOk (carried octets.now)) result self.new
             (after_read self.old self.old.asks octets.now) }
@@ -212,7 +213,7 @@ impl Upload {
         }
     }
 
-    // Goes on to a stage.
+    // Continues with this stage.
     fn go_on(&mut self, next: Result<UploadStage, TransferFault>) -> UploadStep
         requires { IfOk next IsStage }
         ensures { GoesOn self.old next result self.new }
@@ -227,7 +228,7 @@ impl Upload {
         }
     }
 
-    // Ends with the set of these entries, where the octets are a checksum.
+    // Ends with the set of these entries, if the octets are a checksum.
     fn end(&mut self, entries: SetBuilder, octets: &[u8]) -> UploadStep
         ensures step { IsOutcome self.old (answer.ReadOk (carried octets.now)) result self.new
             (after_checksum self.old entries octets.now) }
@@ -240,7 +241,7 @@ impl Upload {
     }
 }
 
-// After an answer (-), to the service that was asked or to the other.
+// The step after an answer (-), which belongs to the requested service or to the other.
 fn refused(right: bool, error: u8, additional: u8) -> UploadStep
     ensures step { (old new : Machine) (answer : Answer) → IsOutcome old answer result new (after_refusal right error additional) }
     ensures set { IfWhole result IsSet }

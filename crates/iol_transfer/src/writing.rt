@@ -1,4 +1,4 @@
-//! An Index_List to octets.
+//! An Index_List is written as octets.
 ghost use Rattle.std.specs.Prelude.{◌≡◌, ◌≤◌, ℕ, length, All, false, Ok};
 ghost use Rattle.std.specs.List.{IsDistinct};
 ghost use Rattle.iol_types.specs.Key.{same_key, is_reserved};
@@ -10,7 +10,8 @@ use arrayvec::ArrayVec;
 use iol_link::DATA_OCTETS;
 use iol_types::Key;
 
-/// The octets of an Index_List with these keys, which are distinct where a reader is to find each, and with what is next.
+/// The octets of an Index_List with these keys and what follows them. A reader finds every key only if the keys are
+/// distinct.
 pub fn write_index_list(keys: &[Key], next: Next) -> ArrayVec<u8, DATA_OCTETS>
     requires count { length keys.now ≤ MOST_LISTED_KEYS }
     requires free { All (λ key. is_reserved key ≡ false) keys.now }

@@ -1,4 +1,4 @@
--- Entries of a set, one behind others.
+-- Entries of a set, added one after the other.
 use Rattle.std.proofs.Common.{◌≡◌, ℕ, ◌+◌, ◌*◌, ◌≤◌, ◌<◌, Bool, true, false, cond, List, [], ◌∷◌, ◌++◌, length, Some, None, refl}
 use Rattle.std.proofs.Common.{ap, sym, ◌∙◌, subst, arith, is_some, get_or, length-append}
 use Rattle.std.specs.Map.{keys_of}
@@ -22,7 +22,7 @@ pub octets_of-push : (entries : List Entry) (key : Key) (octets : List ℕ)
 octets_of-push entries key octets =
     omega (arith, sum_by-append (λ (entry : Entry). ENTRY_HEAD_OCTETS + length entry.1) entries ((key, octets) ∷ []))
 
--- what holds where nothing refuses an entry
+-- what holds of an entry that nothing refuses
 pub record MayBeAdded (entries : List Entry) (key : Key) (octets : List ℕ) : Type 0 where
   pub free : is_reserved key ≡ false
   pub short : length octets ≤ MOST_ENTRY_OCTETS
@@ -46,7 +46,7 @@ may_be_added entries key octets none =
     by false false false true r l t s none = cc
     by false false false false r l t s none = record { free = r; short = ltb-false _ _ l; absent = t; fits = ltb-false _ _ s }
 
--- and nothing refuses an entry of which that holds
+-- and nothing refuses an entry of which this holds
 pub none-added : (entries : List Entry) (key : Key) (octets : List ℕ) → MayBeAdded entries key octets → add_fault entries key octets ≡ None
 none-added entries key octets may =
     let short : nat_lt MOST_ENTRY_OCTETS (length octets) ≡ false = grind (arith, nat_tests, may.short) in
@@ -58,7 +58,7 @@ pub no-entries : AreEntries []
 unfolding IsDistinct
 no-entries = record { each = λ i d below. absurd (omega (arith, below)); distinct = tt; fits = omega arith }
 
--- ---- keys apart from others
+-- ---- distinct keys
 
 false_if_never : (b : Bool) → (b ≡ true → ⊥) → b ≡ false
 false_if_never true never = absurd (never refl)
@@ -86,7 +86,7 @@ apart-push : (key new : Key) (keys : List Key) → AllByRecursion (λ other. sam
 apart-push key new [] all apart = (apart, tt)
 apart-push key new (other ∷ keys) all apart = (all.0, apart-push key new keys all.1 apart)
 
--- keys stay apart with one behind them that is not among them
+-- keys stay distinct if one is appended that is not among them
 pub distinct-push : (entries : List Entry) (key : Key) → is_some (data_at entries key) ≡ false → IsDistinct same_key (keys_of entries)
     → IsDistinct same_key (keys_of entries ++ key ∷ [])
 unfolding IsDistinct
@@ -95,9 +95,9 @@ distinct-push (entry ∷ entries) key absent distinct =
     let parts = absent_parts key entry entries absent in
     (apart-push entry.0 key (keys_of entries) distinct.0 (other_way key entry.0 parts.0), distinct-push entries key parts.1 distinct.1)
 
--- ---- one entry behind others
+-- ---- one entry after others
 
--- an entry that nothing refuses may stand behind the others
+-- an entry that nothing refuses may follow the others
 pub one-more : (entries : List Entry) (key : Key) (octets : List ℕ) → AreEntries entries → IsKey key → MayBeAdded entries key octets
     → AreEntries (entries ++ (key, octets) ∷ [])
 one-more entries key octets are in_range may =
@@ -118,7 +118,7 @@ apart-among : (P : Key → Type 0) (entries : List Entry) (key : Key) (behind : 
 apart-among P [] key behind all = all.0
 apart-among P (other ∷ entries) key behind all = apart-among P entries key behind all.1
 
--- a key that stands apart from those of entries has none among them
+-- a key distinct from those of the entries before it is not found among them
 pub absent-before : (entries : List Entry) (key : Key) (behind : List Key) → IsDistinct same_key (keys_of entries ++ key ∷ behind)
     → is_some (data_at entries key) ≡ false
 unfolding IsDistinct
@@ -127,7 +127,7 @@ absent-before (other ∷ entries) key behind distinct =
     let apart = other_way other.0 key (apart-among (λ one. same_key other.0 one ≡ false) entries key behind distinct.0) in
     ap (λ same. is_some (cond same (Some other.1) (data_at entries key))) apart ∙ absent-before entries key behind distinct.1
 
--- and nothing refuses an entry that stands behind others
+-- and nothing refuses an entry that follows others
 pub may-stand : (entries : List Entry) (entry : Entry) (more : List Entry) → AreEntries (entries ++ entry ∷ more) → IsKey entry.0
     × MayBeAdded entries entry.0 entry.1
 may-stand entries entry more are =
@@ -144,7 +144,7 @@ may-stand entries entry more are =
       },
     )
 
--- entries count the octets of their heads at least
+-- entries count at least the octets of their heads
 pub length-octets_of : (entries : List Entry) → ENTRY_HEAD_OCTETS * length entries ≤ octets_of entries
 length-octets_of [] = omega arith
 length-octets_of (entry ∷ entries) =

@@ -1,4 +1,4 @@
--- The set of the examples is one.
+-- The example set is a valid set.
 use Rattle.std.proofs.Common.{ℕ, List, [], ◌∷◌, refl, arith}
 use Rattle.iol_types.specs.Key.{IsKey}
 use Rattle.iol_types.specs.DataSet.{Entry, AreEntries, IsSet}

@@ -14,12 +14,12 @@ use Rattle.iol_types.specs.declared.data_set.TheConstants.{ENTRY_HEAD_OCTETS}
 use Rattle.iol_types.proofs.Entries.{octets_of-push}
 use Rattle.iol_types.proofs.PartLemmas.{stays, data_lies, grown-push}
 
--- all places lie within parts
+-- all places are within the parts
 abbrev AreWithin : PartsValue → List (Key × PartPlace) → Type 0
 AreWithin parts kept = AllByRecursion (λ (entry : Key × PartPlace). IsWithin parts entry.1) kept
 
 module _ (parts : PartsValue) where
-  -- a look-up among entries is one among the keys
+  -- a look-up among the entries is one among the keys
   pub lookup-entries_of : (test : Key → Bool) (kept : List (Key × PartPlace)) → lookup test (entries_of parts kept)
       ≡ option_map (octets_at parts) (lookup test kept)
   lookup-entries_of test [] = refl
@@ -45,7 +45,7 @@ module _ (parts : PartsValue) where
       by None is = is
       by (Some found) is = let both : true ≡ false = sym (ap is_some is) ∙ sym (is_some-entries_of test kept) ∙ absent in cc
 
-  -- a place that is found lies within the parts
+  -- a place that is found is within the parts
   pub within-found : (test : Key → Bool) (kept : List (Key × PartPlace)) (place : PartPlace) → AreWithin parts kept
       → lookup test kept ≡ Some place
       → IsWithin parts place
@@ -58,7 +58,7 @@ module _ (parts : PartsValue) where
       by true further found = let same : entry.1 ≡ place = cc in rw (sym same) are.0
       by false further found = further found
 
--- ---- one entry more
+-- ---- one more entry
 
 same-behind : (parts : PartsValue) (text : List ℕ) (kept : List (Key × PartPlace)) → AreWithin parts kept
     → entries_of (with_text parts text) kept ≡ entries_of parts kept
@@ -74,7 +74,7 @@ within-behind parts text [] one are is = (is, tt)
 within-behind parts text (entry ∷ kept) one are is =
     ((stays parts text entry.1 are.0).within, within-behind parts text kept one are.1 is)
 
--- what is kept once an entry has come behind the others
+-- what is kept after an entry was added
 pub record Pushed (parts : PartsValue) (kept : List (Key × PartPlace)) (octets : ℕ) (said : List Entry) : Type 0 where
   pub entries : entries_of parts kept ≡ said
   pub are : AreKept parts kept octets

@@ -1,4 +1,4 @@
--- A label, and the zeros behind it.
+-- A label, and the zeros after it.
 use Rattle.std.proofs.Common.{◌≡◌, ◌≤◌, ◌<◌, ◌++◌, ◌-◌, ℕ, zero, suc, true, List, [], ◌∷◌, length, replicate, drop, take, sym, ◌∙◌, ap}
 use Rattle.std.proofs.Common.{subst, ◌&&◌, nat_le, arith}
 use Rattle.std.specs.List.{All, list_all}
@@ -8,14 +8,14 @@ use Rattle.std.proofs.lemmas.List.{drop-replicate}
 use Rattle.iol_types.specs.Label.{is_label_octet, is_label, padded_label, HoldsLabel}
 use Rattle.iol_types.specs.declared.label.TheConstants.{MOST_LABEL_OCTETS, FIRST_PRINTED, LAST_PRINTED}
 
--- the front of a label and its zeros is the label
+-- the front of a padded label is the label
 holds-padded : (label : List ℕ) → length label ≤ MOST_LABEL_OCTETS → is_label label ≡ true → HoldsLabel (length label) (padded_label label)
 holds-padded label short is =
     let front : take (length label) (padded_label label) ≡ label =
     take-append_seam label (replicate (MOST_LABEL_OCTETS - length label) 0) in
     record { short = short; counted = ap length front; padded = ap padded_label front; label = ap is_label front ∙ is }
 
--- octets that are written over the front of 32 zeros
+-- a label that is written over the front of 32 zeros
 pub written : (label front : List ℕ) → front ≡ label → length label ≤ MOST_LABEL_OCTETS → list_all is_label_octet label ≡ true
     → HoldsLabel (length label) (front ++ drop (length label) (replicate MOST_LABEL_OCTETS 0))
 written label front is short all =

@@ -1,4 +1,4 @@
--- Parts: what lies where in them, and what they are together.
+-- Parts: where octets are in them, and what the parts are together.
 use Rattle.std.proofs.Common.{◌≡◌, ℕ, zero, suc, ◌+◌, ◌-◌, ◌≤◌, Bool, true, false, cond, List, [], ◌∷◌, ◌++◌, length, get_or, take, drop}
 use Rattle.std.proofs.Common.{refl}
 use Rattle.std.proofs.Common.{ap, sym, ◌∙◌, arith, subst, leb-true, append_assoc, length-append, slice_get}
@@ -16,9 +16,9 @@ use Rattle.iol_types.specs.declared.parts.PartPlace.{PartPlace}
 use Rattle.iol_types.specs.declared.parts.TheConstants.{PART_OCTETS}
 use Rattle.iol_types.specs.declared.data_set.TheConstants.{ENTRY_HEAD_OCTETS}
 
--- ---- what lay in parts lies there still when a text has come behind
+-- ---- octets in parts stay in place when a text is appended
 
--- a text that has come behind others is found where none was
+-- a text appended to others is found at the first free number
 pub get_or-behind : (full : List (List ℕ)) (last other : List ℕ) (i : ℕ) → i ≤ length full → get_or (full ++ last ∷ []) i other
     ≡ get_or full i last
 get_or-behind [] last other zero below = refl
@@ -26,7 +26,7 @@ get_or-behind [] last other (suc i) below = absurd (omega (arith, below))
 get_or-behind (text ∷ full) last other zero below = refl
 get_or-behind (text ∷ full) last other (suc i) below = get_or-behind full last other i (omega (arith, below))
 
--- a text that grows at its end is the same at its front
+-- a text that grows at its end keeps its front
 longer : (full : List (List ℕ)) (last more : List ℕ) (i : ℕ)
     → (rest : List ℕ) × (get_or full i (last ++ more) ≡ get_or full i last ++ rest)
 longer [] last more i = (more, refl)
@@ -40,7 +40,7 @@ range-front text rest from count within =
     ap (take (from + count - from)) (drop-append-le from text rest (omega (arith, within)))
     ∙ take-append-le (from + count - from) (drop from text) rest (omega (arith, behind, within))
 
--- a place, and the octets there, in parts with a text more
+-- a place is within parts with one more text, and has the same octets
 pub record Stays (parts later : PartsValue) (place : PartPlace) : Type 0 where
   pub within : IsWithin later place
   pub octets : octets_at later place ≡ octets_at parts place
@@ -71,7 +71,7 @@ stays parts text place is = by (nat_le (length parts.last + length text) PART_OC
           octets = ap (λ front. slice_range front place.offset (place.offset + place.octets)) same;
         }
 
--- ---- where the octets of an entry lie
+-- ---- the place of an entry's octets
 
 entry_head : Key → ℕ → List ℕ
 entry_head key octets = to_be_bytes w16 key.index ++ (key.subindex ∷ octets ∷ [])
@@ -93,7 +93,7 @@ pub record LiesThere (later : PartsValue) (place : PartPlace) (said : List ℕ) 
   pub within : IsWithin later place
   pub octets : octets_at later place ≡ said
 
--- octets lie where their text ends with them
+-- octets are at a place if their text ends with them there
 ends_with : (later : PartsValue) (part from : ℕ) (before octets : List ℕ) → part ≤ length later.full
     → text_numbered later part ≡ before ++ octets → length before ≡ from
     → LiesThere later (record { part = part; offset = from; octets = length octets }) octets
@@ -102,7 +102,7 @@ ends_with later part from before octets there found counted = record {
   octets = ap (λ text. slice_range text from (from + length octets)) found ∙ range-behind before octets from counted;
 }
 
--- the octets of an entry whose text has come behind others
+-- the place of an entry's octets after its text was appended
 pub data_lies : (parts : PartsValue) (key : Key) (octets : List ℕ)
     → LiesThere (with_text parts (entry_octets (key, octets))) (data_behind parts (length octets)) octets
 data_lies parts key octets =
@@ -139,7 +139,7 @@ data_lies parts key octets =
 
 -- ---- what all parts are together
 
--- one entry more is one text more
+-- one more entry is one more text
 pub grown-push : (entries : List Entry) (entry : Entry) → grown (entries ++ entry ∷ []) ≡ with_text (grown entries) (entry_octets entry)
 grown-push entries entry = fold-append (λ parts entry. with_text parts (entry_octets entry)) no_parts entries (entry ∷ [])
 
@@ -179,7 +179,7 @@ all-push : (texts : List (List ℕ)) (text : List ℕ) → AllByRecursion IsShor
 all-push [] text all is = (is, tt)
 all-push (one ∷ texts) text all is = (all.0, all-push texts text all.1 is)
 
--- parts of which none is long
+-- parts without a long one
 record AreShort (parts : PartsValue) : Type 0 where
   full : AllByRecursion IsShort parts.full
   last : IsShort parts.last
@@ -212,7 +212,7 @@ found-short [] i all = tt
 found-short (text ∷ texts) zero all = all.0
 found-short (text ∷ texts) (suc i) all = found-short texts i all.1
 
--- and none has more than 512 octets
+-- and none of them has more than 512 octets
 pub short-parts_of : (entries : List Entry) (i : ℕ) → All IsEntry entries → IfSome (slice_get (parts_of entries) i) IsShort
 short-parts_of [] i all = tt
 short-parts_of (entry ∷ entries) i all =

@@ -11,12 +11,12 @@ use Rattle.iol_types.specs.DataSet.{SetValue}
 use Rattle.iol_types.specs.State.{Stored, Port, State, may_have, may_stand, port_numbered, changed_at, store_fault}
 use Rattle.iol_types.specs.declared.command.CommandFault.TheVariants.{NotAllowed, StaleRevision, WrongDevice, NoPrevious}
 
--- what is lent of the ports stands at the place that was asked for
+-- the port at the place that was looked up is the one that is borrowed
 pub lent : (ports : Vec Port Global) (place : ℕ) (port : Port) → place < ports.len → port ≡ get_or ports.items place port
     → slice_get ports.items place ≡ Some port
 lent ports place port below is = slice_get-get_or ports.items place port (omega (arith, below, ports.ok.0)) ∙ ap Some (sym is)
 
--- the port with a number stands one place before it
+-- the port with a number is at the place one before it
 pub numbered : (state : State) (number place : ℕ) (port : Port) → place + 1 ≡ number → slice_get state place ≡ Some port
     → port_numbered state number ≡ Some port
 numbered state number place port behind found =
@@ -24,7 +24,7 @@ numbered state number place port behind found =
     let before : number - 1 ≡ place = omega (arith, behind) in
     rw (from_one, before) found
 
--- and is the one that changes
+-- and it is the port that changes
 pub changes : (state : State) (number place : ℕ) (port later : Port) (change : Port → Port) → place + 1 ≡ number
     → slice_get state place ≡ Some port → later ≡ change port
     → slice_set state place later ≡ changed_at state number change (port_numbered state number)
@@ -34,7 +34,7 @@ changes state number place port later change behind found is =
     ∙ ap (λ (at : ℕ). slice_set state at (change port)) before
     ∙ ap (changed_at state number change) (sym (numbered state number place port behind found))
 
--- a set that may be stored names the port's device
+-- a set that may be stored has the port's device
 pub same_device : (port : Port) (revision : ℕ) (set : SetValue) → store_fault port revision set ≡ None → set.device ≡ port.config.device
 same_device port revision set none =
     by (may_store_set port.config) (revision == port.revision) ((set.vendor == port.config.vendor) && (set.device == port.config.device))
@@ -49,7 +49,7 @@ same_device port revision set none =
     by true true false is none = absurd cc
     by true true true is none = eqb-true set.device port.config.device (and_parts _ _ is).1
 
--- what stays from one configuration to the next, and from that to a third one, stays from the first to the third
+-- a set kept from one configuration to the next, and from that to a third, is kept from the first to the third
 keeps_on : (first second third : PortConfig) → keeps_set first second ≡ true → keeps_set second third ≡ true
     → keeps_set first third ≡ true
 keeps_on first second third one two =
@@ -68,7 +68,7 @@ has_still old new stored keeps has =
     let parts = and_parts _ (keeps_set stored.recorded old) has in
     and_from _ (keeps_set stored.recorded new) parts.0 (keeps_on stored.recorded old new parts.1 keeps)
 
--- sets that may stand at a port may do so under a configuration that keeps them
+-- sets that a port may have, it may have under a configuration that keeps them
 pub still_stand : (old new : PortConfig) (stored previous : Option Stored) → keeps_set old new ≡ true → may_stand old stored previous ≡ true
     → may_stand new stored previous ≡ true
 still_stand old new None None keeps may = refl
@@ -78,7 +78,7 @@ still_stand old new (Some stored) (Some previous) keeps may =
     let both = and_parts (may_have old stored) (may_have old previous) may in
     and_from (may_have new stored) (may_have new previous) (has_still old new stored keeps both.0) (has_still old new previous keeps both.1)
 
--- and may change places where there is a previous one
+-- and they may be exchanged if there is a previous one
 pub stand_exchanged : (config : PortConfig) (stored previous : Option Stored)
     → (if is_none previous then Some NoPrevious else None) ≡ None → may_stand config stored previous ≡ true
     → may_stand config previous stored ≡ true

@@ -1,4 +1,4 @@
--- Lists of commands in two parts, and the count of ports, which no command changes.
+-- Lists of commands split in two, and the number of ports, which no command changes.
 use Rattle.std.proofs.Common.{◌≡◌, ℕ, ◌&&◌, List, [], ◌∷◌, ◌++◌, length, Option, Some, None, is_none, refl, sym, ap, ◌∙◌}
 use Rattle.std.proofs.Math.Bool.{and_assoc}
 use Rattle.std.proofs.lemmas.List.{length-set}
@@ -6,7 +6,7 @@ use Rattle.iol_types.specs.Command.{CommandValue, Configure, Clear, Store, Rollb
 use Rattle.iol_types.specs.State.{Port, State, port_numbered, changed_at, configured, cleared, with_set, exchanged, check, apply, after}
 use Rattle.iol_types.specs.State.{legal}
 
--- commands are legal in a row where the rest is legal in the state after the first
+-- a list of commands is legal if its first part is, and the rest is legal in the state after that part
 pub legal-append : (state : State) (first rest : List CommandValue) → legal state (first ++ rest)
     ≡ (legal state first && legal (after state first) rest)
 legal-append state [] rest = refl

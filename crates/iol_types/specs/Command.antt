@@ -1,4 +1,4 @@
--- Commands to a master, and the changes that a client may ask for.
+-- Commands to a master, and the changes that a client may request.
 use Rattle.std.specs.Prelude.{ℕ, ◌≤◌, Option, Some, None}
 use Rattle.iol_types.specs.Numbers.{IsPortNumber}
 use Rattle.iol_types.specs.Config.{IsConfig}
@@ -10,42 +10,42 @@ use Rattle.iol_types.specs.declared.command.Command.TheVariants as command
 use Rattle.iol_types.specs.declared.command.Change.{Change}
 use Rattle.iol_types.specs.declared.command.Change.TheVariants as change
 
--- what a command says, apart from where its parts lie in memory: Configure gives a port its configuration, Clear
--- deletes a port's parameter sets, Store gives a port at this revision a set, and Rollback exchanges a port's set and
--- the previous one (own)
+-- the content of a command, wherever its parts are in memory: Configure gives a port its configuration, Clear deletes
+-- its parameter sets, Store gives a port at this revision a set, and Rollback exchanges its set and the previous one
+-- (own)
 pub data CommandValue : Type 0 where
   Configure : (port : ℕ) (config : PortConfig) → CommandValue
   Clear : (port : ℕ) → CommandValue
   Store : (port revision : ℕ) (set : SetValue) → CommandValue
   Rollback : (port : ℕ) → CommandValue
 
--- what a command in memory says (own)
+-- the content of a command in memory (own)
 abbrev pub value_of : Command → CommandValue
 value_of (command.Configure port config) = Configure port config
 value_of (command.Clear port) = Clear port
 value_of (command.Store port revision set) = Store port revision set.value
 value_of (command.Rollback port) = Rollback port
 
--- the set that a command carries: a Store has one, and no other command does (own)
+-- the set that a command carries: only a Store has one (own)
 abbrev pub set_in : CommandValue → Option SetValue
 set_in (Configure port config) = None
 set_in (Clear port) = None
 set_in (Store port revision set) = Some set
 set_in (Rollback port) = None
 
--- the command that a change is (own)
+-- the command that a change becomes (own)
 abbrev pub command_of : Change → CommandValue
 command_of (change.Configure port config) = Configure port config
 command_of (change.Clear port) = Clear port
 command_of (change.Rollback port) = Rollback port
 
--- the port that a change is asked of (own)
+-- the port that a change is requested for (own)
 abbrev pub port_asked : Change → ℕ
 port_asked (change.Configure port config) = port
 port_asked (change.Clear port) = port
 port_asked (change.Rollback port) = port
 
--- the numbers of a command are in their ranges, and its set is one (own)
+-- the numbers of a command are in their ranges, and its set is valid (own)
 abbrev pub IsCommand : CommandValue → Type 0
 IsCommand (Configure port config) = IsPortNumber port × IsConfig config
 IsCommand (Clear port) = IsPortNumber port

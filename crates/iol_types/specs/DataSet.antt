@@ -10,7 +10,7 @@ use Rattle.iol_types.specs.declared.data_set.TheConstants.{MOST_ENTRY_OCTETS, EN
 use Rattle.iol_types.specs.declared.set_builder.AddFault.{AddFault}
 use Rattle.iol_types.specs.declared.set_builder.AddFault.TheVariants.{ReservedKey, EntryTooLong, Duplicate, SetTooLarge}
 
--- an entry: the key of a parameter, and the octets that it has (own)
+-- an entry: the key of a parameter, and its octets (own)
 abbrev pub Entry : Type 0
 Entry = Key × List ℕ
 
@@ -25,32 +25,32 @@ pub record IsEntry (entry : Entry) : Type 0 where
 abbrev pub octets_of : List Entry → ℕ
 octets_of entries = sum_by (λ (entry : Entry). ENTRY_HEAD_OCTETS + length entry.1) entries
 
--- entries that a set may have: each may be held, no key stands twice, and they count at most 4,096 octets (own)
+-- entries that a set may have: each is allowed, no key occurs twice, and they count at most 4,096 octets (own)
 pub record AreEntries (entries : List Entry) : Type 0 where
   pub each : All IsEntry entries
   pub distinct : IsDistinct same_key (keys_of entries)
   pub fits : octets_of entries ≤ MOST_SET_OCTETS
 
--- the octets that a key has among entries, if it is there (own)
+-- the octets of a key among entries, if there is an entry for it (own)
 abbrev pub data_at : List Entry → Key → Option (List ℕ)
 data_at entries key = lookup (same_key key) entries
 
--- what a parameter set says, apart from where its parts lie in memory: its entries in order, the VendorID and DeviceID
--- of its device, and the device's checksum (own)
+-- the content of a parameter set, wherever its parts are in memory: its entries in order, the VendorID and DeviceID of
+-- its device, and the device's checksum (own)
 pub record SetValue : Type 0 where
   pub entries : List Entry
   pub vendor : ℕ
   pub device : ℕ
   pub checksum : ℕ
 
--- a parameter set: entries that it may have, and numbers in their ranges (own)
+-- a valid parameter set: entries that a set may have, and numbers in their ranges (own)
 pub record IsSet (set : SetValue) : Type 0 where
   pub entries : AreEntries set.entries
   pub vendor : set.vendor < 2 ^ 16
   pub device : IsDeviceNumber set.device
   pub checksum : set.checksum < 2 ^ 32
 
--- why an entry does not come to others, by the first cause; none where it may (own)
+-- why an entry is not added to others, by the first cause; none if it may be (own)
 abbrev pub add_fault : List Entry → Key → List ℕ → Option AddFault
 add_fault entries key octets =
     if is_reserved key then Some ReservedKey

@@ -1,4 +1,4 @@
--- Entries in memory as what they say.
+-- Entries in memory, and the entries that they represent.
 use Rattle.std.specs.Prelude.{◌≡◌, ℕ, List, map}
 use Rattle.std.specs.List.{AllByRecursion}
 use Rattle.iol_types.specs.DataSet.{Entry, octets_of}
@@ -11,11 +11,11 @@ use Rattle.iol_types.specs.declared.kept_entries.Entries.TheInside.{Inside}
 abbrev pub entries_of : PartsValue → List (Key × PartPlace) → List Entry
 entries_of parts kept = map (λ entry. (entry.0, octets_at parts entry.1)) kept
 
--- what entries in memory say (own)
+-- the entries that the memory represents (own)
 abbrev pub entries_in : Inside → List Entry
 entries_in inside = entries_of inside.parts inside.places.entries
 
--- parts have grown of the entries that keys and places say, and these count so many octets (own)
+-- the parts are those of the entries that keys and places represent, and the entries count `octets` (own)
 pub record AreKept (parts : PartsValue) (kept : List (Key × PartPlace)) (octets : ℕ) : Type 0 where
   pub made : parts ≡ grown (entries_of parts kept)
   pub within : AllByRecursion (λ (entry : Key × PartPlace). IsWithin parts entry.1) kept

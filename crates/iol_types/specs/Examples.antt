@@ -1,4 +1,4 @@
--- The configuration, the set and the states that examples speak of.
+-- The configuration, the set and the states of the examples.
 use Rattle.std.specs.Prelude.{ℕ, List, [], ◌∷◌, replicate, Some, None}
 use Rattle.iol_types.specs.DataSet.{Entry, SetValue}
 use Rattle.iol_types.specs.State.{State, Stored, Port}
@@ -26,7 +26,7 @@ example_set = record {
   checksum = 591;
 }
 
--- for worked examples: the parameter 0040.00 with so many octets 07 (own)
+-- for worked examples: the parameter 0040.00 with this number of octets 07 (own)
 abbrev pub sevens : ℕ → Entry
 sevens octets = (record { index = 64; subindex = 0 }, replicate octets 7)
 
@@ -34,7 +34,7 @@ sevens octets = (record { index = 64; subindex = 0 }, replicate octets 7)
 abbrev pub nearly_full : List Entry
 nearly_full = replicate 17 (sevens 232)
 
--- for worked examples: the set, taken under the configuration (own)
+-- for worked examples: the example set, taken under the example configuration (own)
 abbrev pub example_stored : Stored
 example_stored = record { set = example_set; recorded = example_config }
 
@@ -46,11 +46,13 @@ port_of config revision = record { config = config; revision = revision; stored 
 abbrev pub one_port : PortConfig → ℕ → State
 one_port config revision = port_of config revision ∷ []
 
--- for worked examples: a port with this configuration, revision 1, and the set, taken under the same configuration (own)
+-- for worked examples: a port with the example configuration, revision 1, and the example set, taken under the same
+-- configuration (own)
 abbrev pub example_port : Port
 example_port = record { config = example_config; revision = 1; stored = Some example_stored; previous = None }
 
--- for worked examples: the set with 80 in place of 7F, whose checksum is 594, taken under the configuration (own)
+-- for worked examples: the example set with 80 in place of 7F, and checksum 594, taken under the example configuration
+-- (own)
 abbrev pub newer_stored : Stored
 newer_stored = record {
   set = record example_set {
@@ -60,6 +62,6 @@ newer_stored = record {
   recorded = example_config;
 }
 
--- for worked examples: that port once the newer set is stored, so that the first one is the previous one (own)
+-- for worked examples: the example port after the newer set is stored, so that the first one is the previous one (own)
 abbrev pub renewed_port : Port
 renewed_port = record example_port { stored = Some newer_stored; previous = Some example_stored }

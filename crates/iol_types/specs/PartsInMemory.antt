@@ -1,4 +1,4 @@
--- Parts in memory as what they say.
+-- Parts in memory, and the parts that they represent.
 use Rattle.std.specs.Prelude.{ℕ, List, map, Vec}
 use Rattle.std.specs.declared.alloc.Global.{Global}
 use Rattle.iol_types.specs.Parts.{PartsValue}
@@ -8,6 +8,6 @@ use Rattle.iol_types.specs.declared.parts.Parts.TheInside.{Inside}
 abbrev pub octets_of_each : List (Vec ℕ Global) → List (List ℕ)
 octets_of_each texts = map (λ text. text.items) texts
 
--- what parts in memory say (own)
+-- the parts that the memory represents (own)
 abbrev pub parts_in : Inside → PartsValue
 parts_in parts = record { full = octets_of_each parts.full.items; last = parts.last.items }

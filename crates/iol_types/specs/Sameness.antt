@@ -1,4 +1,4 @@
--- What says the same: tests, each with the proof that it is true exactly where the two are equal.
+-- Tests for sameness, each with the proof that it is true exactly if the two are equal.
 use Rattle.std.specs.Prelude.{◌≡◌, ◌==◌, Bool, true, false, ◌&&◌, List, Some, refl}
 use Rattle.std.specs.Bool.{Decides}
 use Rattle.std.specs.Str.{bytes_eq}
@@ -50,7 +50,7 @@ same_entry-Decides one two = (
 pub same_entries-Decides : (one two : List Entry) → Decides (pointwise same_entry one two) (one ≡ two)
 same_entries-Decides = pointwise_decides same_entry-Decides
 
--- two sets say the same: equal numbers, and the same entries in the same order (own)
+-- two sets are the same: equal numbers, and the same entries in the same order (own)
 abbrev pub same_set : SetValue → SetValue → Bool
 same_set one two =
     (one.vendor == two.vendor) &&
@@ -129,7 +129,7 @@ same_config-Decides one two = (
 
 -- ---- commands
 
--- two commands say the same: one kind, and equal parts (own)
+-- two commands are the same: of one kind, with equal parts (own)
 abbrev pub same_command : CommandValue → CommandValue → Bool
 same_command (Configure port config) (Configure other_port other_config) = (port == other_port) && same_config config other_config
 same_command (Clear port) (Clear other_port) = port == other_port

@@ -17,15 +17,15 @@ pub record Stored : Type 0 where
   pub set : SetValue
   pub recorded : PortConfig
 
--- a port under this configuration may have this stored set: the configuration that the set was taken under may store
--- one, names the set's device, and the set outlives the change from it to the present one (own)
+-- a port with this configuration may have this stored set: the configuration that the set was taken under may store one
+-- and names the set's device, and the set stays when it is replaced by the present one (own)
 abbrev pub may_have : PortConfig → Stored → Bool
 may_have config stored =
     may_store_set stored.recorded && (stored.set.vendor == stored.recorded.vendor) && (stored.set.device == stored.recorded.device)
     && keeps_set stored.recorded config
 
--- what may stand at a port under this configuration, as its stored set and as the previous one: nothing; a set that it
--- may have; two of these. No set is the previous one of nothing (own)
+-- a port with this configuration may have these as its stored set and its previous one: neither; a stored set that it
+-- may have; two sets that it may have; but no previous set alone (own)
 abbrev pub may_stand : PortConfig → Option Stored → Option Stored → Bool
 may_stand config None None = true
 may_stand config None (Some previous) = false
@@ -45,7 +45,7 @@ pub record IsStored (stored : Stored) : Type 0 where
   pub set : IsSet stored.set
   pub recorded : IsConfig stored.recorded
 
--- the numbers of a port are in their ranges, and its sets may stand at it (own)
+-- the numbers of a port are in their ranges, and the port may have its sets (own)
 pub record IsPort (port : Port) : Type 0 where
   pub config : IsConfig port.config
   pub revision : port.revision ≤ LAST_REVISION
@@ -66,20 +66,19 @@ blank = record {
   previous = None;
 }
 
--- so many ports that were never configured (own)
+-- this number of ports that were never configured (own)
 abbrev pub empty_state : ℕ → State
 empty_state ports = replicate ports blank
 
--- the port with this number, if it is there (own)
+-- the port with this number, if there is one (own)
 abbrev pub port_numbered : State → ℕ → Option Port
 port_numbered state number = if nat_le 1 number then slice_get state (number - 1) else None
 
--- the state in which the port with this number is the given one, and the others are as they were
--- (own)
+-- the state with the port of this number replaced by the given one (own)
 abbrev pub with_port : State → ℕ → Port → State
 with_port state number port = slice_set state (number - 1) port
 
--- why a port is not configured anew: it has had its last revision (own)
+-- why a port is not configured again: it is at its last revision (own)
 abbrev pub configure_fault : Port → Option CommandFault
 configure_fault port = if nat_lt port.revision LAST_REVISION then None else Some RevisionSpent
 
@@ -96,19 +95,19 @@ store_fault port revision set =
 abbrev pub rollback_fault : Port → Option CommandFault
 rollback_fault port = if is_none port.previous then Some NoPrevious else None
 
--- why a command is refused at a port: the port is not there, or what the port says (own)
+-- why a command is refused at a port: there is no such port, or the given fault of the port (own)
 abbrev pub fault_at : Option Port → (Port → Option CommandFault) → Option CommandFault
 fault_at None fault = Some UnknownPort
 fault_at (Some port) fault = fault port
 
--- why a command is refused in a state; none where it passes (own)
+-- why a command is refused in a state; none if it passes (own)
 abbrev pub check : State → CommandValue → Option CommandFault
 check state (Configure number config) = fault_at (port_numbered state number) configure_fault
 check state (Clear number) = fault_at (port_numbered state number) (λ port. None)
 check state (Store number revision set) = fault_at (port_numbered state number) (λ port. store_fault port revision set)
 check state (Rollback number) = fault_at (port_numbered state number) rollback_fault
 
--- a port under its next configuration: its sets stay where a set does (own)
+-- a port with its next configuration: its sets stay if `keeps_set` holds (own)
 abbrev pub configured : Port → PortConfig → Port
 configured port config = record {
   config = config;
@@ -121,15 +120,15 @@ configured port config = record {
 abbrev pub cleared : Port → Port
 cleared port = record port { stored = None; previous = None }
 
--- a port that has this set, taken under its present configuration; the one that it had is the previous one (own)
+-- a port with this set stored, taken under its present configuration; the set that it had is the previous one (own)
 abbrev pub with_set : Port → SetValue → Port
 with_set port set = record port { stored = Some (record { set = set; recorded = port.config }); previous = port.stored }
 
--- a port whose set and previous set are exchanged (own)
+-- a port with its set and its previous set exchanged (own)
 abbrev pub exchanged : Port → Port
 exchanged port = record port { stored = port.previous; previous = port.stored }
 
--- the state in which one port, if it is there, has changed (own)
+-- the state with one port changed, if there is such a port (own)
 abbrev pub changed_at : State → ℕ → (Port → Port) → Option Port → State
 changed_at state number change None = state
 changed_at state number change (Some port) = with_port state number (change port)
@@ -145,7 +144,7 @@ apply state (Rollback number) = changed_at state number exchanged (port_numbered
 abbrev pub after : State → List CommandValue → State
 after state commands = fold apply state commands
 
--- each command passes in the state that it meets (own)
+-- each command passes in the state after those before it (own)
 abbrev pub legal : State → List CommandValue → Bool
 legal state [] = true
 legal state (command ∷ commands) = is_none (check state command) && legal (apply state command) commands

@@ -1,4 +1,4 @@
-//! What changes a master's ports.
+//! The commands that change a master's ports.
 
 use crate::config::PortConfig;
 use crate::data_set::DataSet;
@@ -7,8 +7,7 @@ use std::alloc::AllocError;
 use std::sync::Arc;
 use thiserror::Error;
 
-/// A change of a master's state. A contract speaks of its value, `value_of` in
-/// `specs/Command.antt`.
+/// A change of a master's state. A contract sees its value, `value_of` in `specs/Command.antt`.
 #[derive(Debug, Drop)]
 pub enum Command {
     /// Gives a port a configuration, and its next revision.
@@ -20,7 +19,7 @@ pub enum Command {
     Clear {
         port: PortId,
     },
-    /// Gives a port that is at this revision a parameter set; one that it has becomes its previous one.
+    /// Gives a port at this revision a parameter set; the set that it had becomes its previous one.
     Store {
         port: PortId,
         revision: u64,
@@ -36,10 +35,10 @@ impl Command {
     ghost use Rattle.std.specs.Prelude.{◌≡◌, IsSome, IfOk, OnErr};
     ghost use Rattle.iol_types.specs.Command.{value_of, set_in};
 
-    /// An equal command; a set is shared with it.
+    /// An equal command, which shares the set if there is one.
     ///
     /// # Errors
-    /// `AllocError` where it is out of memory; a command without a set takes none.
+    /// `AllocError` if out of memory; a command without a set needs none.
     pub fn copy(&self) -> Result<Command, AllocError>
         ensures copy { IfOk result (λ command. value_of command ≡ value_of self.now) }
         ensures memory { OnErr result (IsSome (set_in (value_of self.now))) }
@@ -64,8 +63,8 @@ impl Command {
     }
 }
 
-/// Commands are equal where they say the same; of two sets the contents are compared. It takes no
-/// memory.
+/// Commands are equal if they are of the same kind and have equal parts; two sets are compared by their
+/// contents. Comparing allocates no memory.
 impl PartialEq for Command {
     ghost use Rattle.std.specs.Prelude.{◌≡◌, ◌↔◌, IsTrue};
     ghost use Rattle.std.specs.Ordering.{on};
@@ -115,8 +114,7 @@ impl Eq for Command {
     ghost laws = { same_command-laws };
 }
 
-/// A change that a client may ask for. A contract speaks of its value, `command_of` in
-/// `specs/Command.antt`.
+/// A change that a client may request. A contract sees its value, `command_of` in `specs/Command.antt`.
 #[derive(Clone, Copy, Debug, PartialEq, Eq)]
 pub enum Change {
     /// Gives a port a configuration, and its next revision.
@@ -131,7 +129,7 @@ impl Change {
     ghost use Rattle.std.specs.Prelude.{◌≡◌};
     ghost use Rattle.iol_types.specs.Command.{value_of, command_of, port_asked};
 
-    /// The port that it is asked of.
+    /// The port that the change is requested for.
     pub fn port(self) -> PortId
         ensures { result ≡ port_asked self }
     {
@@ -170,7 +168,7 @@ pub enum CommandFault {
     /// The port is at another revision.
     #[error("the port was configured since")]
     StaleRevision,
-    /// The set is of another device than the port's configuration names.
+    /// The set belongs to another device than the one that the port's configuration names.
     #[error("the parameter set of another device")]
     WrongDevice,
     /// The port has no previous parameter set.

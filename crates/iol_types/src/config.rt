@@ -94,7 +94,8 @@ impl Validation {
     }
 }
 
-/// The configuration of a port, with the VendorID and the DeviceID of the device that it wants, and what the port is called.
+/// The configuration of a port, with the VendorID and the DeviceID of the device that it expects, and the
+/// label of the port.
 #[derive(Clone, Copy, Debug, PartialEq, Eq)]
 pub struct PortConfig {
     pub mode: PortMode,
@@ -125,9 +126,9 @@ impl PortConfig {
     }
 }
 
-/// Whether a port's parameter set stays where the configuration `old` gives way to `new`: both are
-/// IOL_MANUAL with validation 3 or 4, and they name the same vendor and device (IO-Link V1.1, Data
-/// Storage, change of the port configuration). The labels say nothing of it.
+/// Whether a port's parameter set stays when the configuration `old` is replaced by `new`: both are
+/// IOL_MANUAL with validation 3 or 4, and they name the same vendor and device (IO-Link V1.1, Data Storage,
+/// change of the port configuration). The labels do not matter.
 pub fn keeps_set(old: &PortConfig, new: &PortConfig) -> bool
     ensures { result ≡ keeps_set old.now new.now }
 {

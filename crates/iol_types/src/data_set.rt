@@ -1,4 +1,5 @@
-//! What is kept of a device: its parameters, whose they are, and the checksum that it gave.
+//! What is kept of a device: its parameters, the device that they belong to, and the checksum that it
+//! reported.
 ghost use Rattle.std.specs.Prelude.{◌≡◌, ◌≤◌, ◌↔◌, length, nat_eq, slice_get, IsTrue, IfSome};
 ghost use Rattle.std.specs.List.{concat, flat_map};
 ghost use Rattle.std.specs.Option.{option_copied, option_map};
@@ -10,18 +11,18 @@ use crate::kept_entries::Entries;
 use crate::key::Key;
 use std::marker::Model;
 
-/// The most octets that a parameter of a set has.
+/// The maximum number of octets of a parameter in a set.
 pub const MOST_ENTRY_OCTETS: usize = 232;
-/// What an entry counts beside its octets: Index 2, Subindex 1, length 1.
+/// What an entry counts in addition to its octets: Index 2, Subindex 1, length 1.
 pub const ENTRY_HEAD_OCTETS: usize = 4;
-/// The most that the entries of a set count together.
+/// The maximum that the entries of a set count together.
 pub const MOST_SET_OCTETS: usize = 4096;
 
-/// A parameter set: what the Data Storage of one device was found to hold (IO-Link V1.1, Data
-/// Storage object). A contract sees the record `SetValue` of `specs/DataSet.antt`.
+/// A parameter set: the contents of one device's Data Storage (IO-Link V1.1, Data Storage object). A contract
+/// sees the record `SetValue` of `specs/DataSet.antt`.
 ///
-/// Its keys are distinct and none is reserved, each has 0 to 232 octets, and all count 4,096 at
-/// most, 4 for each entry and its octets. [`SetBuilder`](crate::SetBuilder) makes one.
+/// Its keys are distinct and none is reserved. Each key has 0 to 232 octets, and together the entries count
+/// at most 4,096: 4 for each entry, and its octets. [`SetBuilder`](crate::SetBuilder) makes one.
 #[derive(Debug, Drop)]
 pub struct DataSet {
     entries: Entries,
@@ -42,8 +43,8 @@ impl Model for DataSet {
     ghost invariant = { λ s. IsSet (set_of s) };
 }
 
-/// Sets are equal where they say the same: the same entries in the same order, and equal numbers. It
-/// takes no memory.
+/// Sets are equal if they have the same entries in the same order, and equal numbers. Comparing allocates no
+/// memory.
 impl PartialEq for DataSet {
     ghost use Rattle.std.specs.Cmp.{partial_equiv_from_equiv};
     ghost use Rattle.iol_types.specs.Sameness.{same_set, same_set-laws};
@@ -52,7 +53,7 @@ impl PartialEq for DataSet {
 
     ghost laws = { partial_equiv_from_equiv same_set-laws };
 
-    // What is soon compared comes first.
+    // The cheap comparisons come first.
     fn eq(&self, other: &DataSet) -> bool
         ensures test { result ≡ same_set self.now other.now }
         ensures exactly { IsTrue result ↔ (self.now ≡ other.now) }
@@ -72,7 +73,7 @@ impl Eq for DataSet {
     ghost laws = { same_set-laws };
 }
 
-// Whether two sets of as many entries have the same ones in the same order.
+// Whether two sets with the same number of entries have the same ones in the same order.
 fn has_entries_of(set: &DataSet, other: &DataSet) -> bool
     requires { length set.now.entries ≡ length other.now.entries }
     ensures { IsTrue result ↔ (set.now.entries ≡ other.now.entries) }
@@ -89,7 +90,7 @@ impl DataSet {
     ghost use Rattle.iol_types.specs.DataSet.{SetValue, AreEntries, IsSet, octets_of, data_at};
     ghost use Rattle.iol_types.specs.Parts.{entry_octets, parts_of};
 
-    // The set of these entries.
+    // Makes the set of these entries.
     pub(crate) fn of(entries: Entries, vendor: u16, device: DeviceId, checksum: u32) -> DataSet
         requires { AreEntries entries }
         ensures { result ≡ record { entries = entries; vendor = vendor; device = device; checksum = checksum } }
@@ -109,7 +110,7 @@ impl DataSet {
         self.entries.get(key)
     }
 
-    /// The entry at a place, from 0, if it is there.
+    /// The entry at a place, counted from 0, if there is one.
     pub fn entry(&self, place: usize) -> Option<(Key, &[u8])>
         ensures entry { option_map (λ entry. (entry.0, entry.1.now)) result ≡ slice_get self.now.entries place }
         ensures short { IfSome result (λ entry. length entry.1.now ≤ MOST_ENTRY_OCTETS) }
@@ -117,7 +118,7 @@ impl DataSet {
         self.entries.entry(place)
     }
 
-    /// How many entries there are, at most 1,024.
+    /// The number of entries, at most 1,024.
     pub fn len(&self) -> usize
         ensures count { result ≡ length self.now.entries }
         ensures bound { result ≤ 1024 }
@@ -125,14 +126,14 @@ impl DataSet {
         self.entries.len()
     }
 
-    /// Whether there is no entry.
+    /// Whether the set has no entries.
     pub fn is_empty(&self) -> bool
         ensures { result ≡ nat_eq (length self.now.entries) 0 }
     {
         self.entries.len() == 0
     }
 
-    /// What the entries count: 4 for each, and its octets; at most 4,096, since the set is one.
+    /// What the entries count: 4 for each, and its octets; at most 4,096, since the set is valid.
     pub fn octets(&self) -> usize
         ensures count { result ≡ octets_of self.now.entries }
         ensures bound { result ≤ MOST_SET_OCTETS }
@@ -141,16 +142,16 @@ impl DataSet {
         self.entries.octets()
     }
 
-    /// How many parts there are.
+    /// The number of parts.
     pub fn parts(&self) -> usize
         ensures { result ≡ length (parts_of self.now.entries) }
     {
         self.entries.parts()
     }
 
-    /// A part of the entries, from 0, if it is there. In order the parts are the entries' octets as a
-    /// record spells them (docs/FORMATS.md, Records). Each has at most 512 octets of whole entries, and
-    /// a new one begins only where the next entry did not fit.
+    /// The part of the entries at a place, counted from 0, if there is one. The parts in order are the
+    /// entries' octets as in a record (docs/FORMATS.md, Records). Each has at most 512 octets of whole
+    /// entries, and a new part begins only if the next entry does not fit.
     pub fn part(&self, place: usize) -> Option<&[u8]>
         ensures part { option_copied result ≡ slice_get (parts_of self.now.entries) place }
         ensures short { IfSome result (λ part. length part.now ≤ PART_OCTETS) }
@@ -173,7 +174,7 @@ impl DataSet {
         self.device
     }
 
-    /// The Parameter_Checksum that the device gave.
+    /// The Parameter_Checksum that the device reported.
     pub fn checksum(&self) -> u32
         ensures { result ≡ self.now.checksum }
     {

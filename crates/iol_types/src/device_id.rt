@@ -4,7 +4,7 @@ ghost use Rattle.iol_types.specs.Numbers.{IsDeviceNumber};
 
 use std::marker::Model;
 
-/// How many DeviceIDs there are: a DeviceID has three octets.
+/// The number of DeviceIDs: a DeviceID has three octets.
 pub const DEVICE_NUMBERS: u32 = 0x100_0000;
 
 /// A DeviceID, below 2^24 (IO-Link V1.1, Direct Parameter page 1, addresses 0x09 to 0x0B).
@@ -27,7 +27,7 @@ impl Model for DeviceId {
 }
 
 impl DeviceId {
-    /// The DeviceID with this number, or `None` where it is 2^24 or more.
+    /// The DeviceID with this number, or `None` if it is 2^24 or more.
     pub fn new(number: u32) -> Option<DeviceId>
         ensures range { IsSome result ↔ IsDeviceNumber number }
         ensures number { IfSome result (λ device. device ≡ number) }

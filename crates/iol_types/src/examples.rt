@@ -1,5 +1,5 @@
-//! Facts with values of the standard and of the crate's formats, worked out by the check: a number
-//! that is wrong in a definition and in the code alike is refused here.
+//! Facts with values from the standard and the crate's formats, computed by the proof check: a number that is
+//! wrong both in a definition and in the code is refused here.
 
 ghost use Rattle.std.specs.Prelude.{◌≡◌, ℕ, [], ◌∷◌, ◌++◌, length, map, replicate, codes, true, false};
 ghost use Rattle.iol_types.specs.Numbers.{IsPortNumber, IsDeviceNumber};
@@ -50,8 +50,8 @@ pub fn modes()
     ensures above { mode_of 5 ≡ None }
 {}
 
-/// The octets of the validations are 0 none, 1 type compatible V1.0, 2 type compatible V1.1, 3 the
-/// same with Backup and Restore, and 4 the same with Restore.
+/// The octets of the validations are 0 for no check, 1 for type compatible V1.0, 2 for type compatible V1.1, 3 for
+/// V1.1 with Backup and Restore, and 4 for V1.1 with Restore.
 pub fn validations()
     ensures written { map validation_octet (Validation.NoCheck ∷ Validation.TypeCompatibleV10
         ∷ Validation.TypeCompatibleV11 ∷ Validation.BackupAndRestore ∷ Validation.Restore ∷ [])
@@ -62,7 +62,7 @@ pub fn validations()
     ensures above { validation_of 5 ≡ None }
 {}
 
-/// A port at revision 2^64 - 1 takes no configuration; one at 2^64 - 2 takes one more.
+/// A port at revision 2^64 - 1 accepts no configuration; one at 2^64 - 2 accepts one more.
 pub fn last_revisions()
     ensures spent { (old new : PortConfig) → check (one_port old 18446744073709551615) (Configure 1 new)
         ≡ Some CommandFault.RevisionSpent }
@@ -83,7 +83,7 @@ pub fn ranges()
     ensures subindex { ¬ IsKey (record { index = 64; subindex = 256 }) }
 {}
 
-/// A label has 0 to 32 octets, each from 20 to 7E but 22.
+/// A label has 0 to 32 octets, each from 20 to 7E except 22.
 pub fn what_is_a_label()
     ensures labels { map is_label ([] ∷ codes "P" ∷ codes "Pump 3" ∷ codes "\\ & < ~" ∷ replicate 32 32 ∷ [])
         ≡ true ∷ true ∷ true ∷ true ∷ true ∷ [] }
@@ -93,8 +93,8 @@ pub fn what_is_a_label()
     ensures last { is_label (codes "Pump \"") ≡ false }
 {}
 
-/// Of the five modes IOL_MANUAL alone may store a set and may have one; of the five validations Backup
-/// and Restore may store one, and that and Restore may have one.
+/// Of the five modes, only IOL_MANUAL may store a set or have one. Of the five validations, only Backup and
+/// Restore may store one; that and Restore may have one.
 pub fn rights_to_a_set()
     ensures modes_store { map (λ mode. may_store_set (record example_config { mode = mode })) (PortMode.Deactivated
         ∷ PortMode.IolManual ∷ PortMode.IolAutostart ∷ PortMode.DigitalInput ∷ PortMode.DigitalOutput ∷ [])
@@ -110,8 +110,9 @@ pub fn rights_to_a_set()
         ∷ Validation.BackupAndRestore ∷ Validation.Restore ∷ []) ≡ false ∷ false ∷ false ∷ true ∷ true ∷ [] }
 {}
 
-/// From Backup and Restore to Restore a parameter set stays, the other way round, and under the same
-/// configuration; not under another vendor, device or mode, nor where Restore is given up.
+/// A parameter set stays when the validation changes from Backup and Restore to Restore or back, and under the
+/// same configuration. It does not stay under another vendor, device or mode, or if the new validation does not
+/// restore.
 pub fn sets_kept()
     ensures to_restore { keeps_set example_config (record example_config { validation = Validation.Restore }) ≡ true }
     ensures from_restore { keeps_set (record example_config { validation = Validation.Restore }) example_config ≡ true }
@@ -125,15 +126,15 @@ pub fn sets_kept()
     ensures another_label { keeps_set example_config (record example_config { label = codes "Pump 3" }) ≡ true }
 {}
 
-/// A set does not stay where the configuration before it might not have one.
+/// A set does not stay if the old configuration may not have one.
 pub fn sets_not_kept_from()
     ensures validation { keeps_set (record example_config { validation = Validation.TypeCompatibleV11 }) example_config ≡ false }
     ensures mode { keeps_set (record example_config { mode = PortMode.IolAutostart }) example_config ≡ false }
 {}
 
-/// A port may have a set that was taken under a configuration with Backup and Restore for the set's
-/// device and that outlives the change to the present one. Each of these alone refuses it: a set of
-/// another vendor or device, one that was taken under Restore, another vendor now.
+/// A port may have a set that was taken under a configuration with Backup and Restore for the set's device, if the
+/// set stays when this configuration is replaced by the present one. Each of these alone refuses it: a set of
+/// another vendor or device, a set taken under Restore, another vendor in the present configuration.
 pub fn rights_to_what_is_stored()
     ensures same { may_have example_config example_stored ≡ true }
     ensures restore { may_have (record example_config { validation = Validation.Restore }) example_stored ≡ true }
@@ -144,7 +145,7 @@ pub fn rights_to_what_is_stored()
     ensures since { may_have (record example_config { vendor = 501 }) example_stored ≡ false }
 {}
 
-/// A port may have two sets, one or none, but no previous set alone; each is judged by itself.
+/// A port may have two sets, one or none, but no previous set without a present one; each set is judged by itself.
 pub fn what_may_stand()
     ensures counts { may_stand example_config None None ∷ may_stand example_config None (Some example_stored)
         ∷ may_stand example_config (Some example_stored) None ∷ may_stand example_config (Some newer_stored) (Some example_stored) ∷ []
@@ -157,7 +158,7 @@ pub fn what_may_stand()
         ≡ false }
 {}
 
-/// A master begins with ports that are DEACTIVATED, and its ports are counted from 1.
+/// The ports of a new master are DEACTIVATED, and ports are numbered from 1.
 pub fn new_ports()
     ensures empty { empty_state 2 ≡ replicate 2
         (port_of (record { mode = PortMode.Deactivated; validation = Validation.NoCheck; vendor = 0; device = 0; label = [] }) 0) }
@@ -167,8 +168,8 @@ pub fn new_ports()
     ensures none_behind { port_numbered (example_port ∷ []) 2 ≡ None }
 {}
 
-/// A command of a port that is not there is refused, and a Clear of one that is there passes, with a
-/// set or without.
+/// A command for a port that the master does not have is refused; a Clear of an existing port passes, with a set
+/// or without.
 pub fn unknown_ports()
     ensures configure { check (example_port ∷ []) (Configure 2 example_config) ≡ Some CommandFault.UnknownPort }
     ensures clear { check (example_port ∷ []) (Clear 2) ≡ Some CommandFault.UnknownPort }
@@ -178,8 +179,8 @@ pub fn unknown_ports()
     ensures blank { check (empty_state 1) (Clear 1) ≡ None }
 {}
 
-/// Configure gives a port the configuration and the next revision. Its sets stay, each with the configuration
-/// that it was taken under, where the port keeps them, and are gone else. The other port stays.
+/// Configure gives a port the configuration and the next revision. Its sets stay, each with the configuration that
+/// it was taken under, if the port keeps them, and are deleted otherwise. The other port stays as it is.
 pub fn ports_configured()
     ensures kept { apply (example_port ∷ []) (Configure 1 (record example_config { validation = Validation.Restore }))
         ≡ record (port_of (record example_config { validation = Validation.Restore }) 2) { stored = Some example_stored } ∷ [] }
@@ -201,7 +202,7 @@ pub fn ports_configured()
         ≡ example_port ∷ one_port (record example_config { device = 1 }) 2 }
 {}
 
-/// Clear deletes the sets of its port, and leaves its configuration, its revision and the other port.
+/// Clear deletes the sets of its port, and leaves its configuration, its revision and the other port unchanged.
 pub fn ports_cleared()
     ensures cleared { apply (example_port ∷ []) (Clear 1) ≡ one_port example_config 1 }
     ensures both { apply (renewed_port ∷ []) (Clear 1) ≡ one_port example_config 1 }
@@ -209,8 +210,8 @@ pub fn ports_cleared()
     ensures one_of_two { apply (example_port ∷ example_port ∷ []) (Clear 2) ≡ example_port ∷ one_port example_config 1 }
 {}
 
-/// A set is stored under IOL_MANUAL with Backup and Restore, at the port's revision, for its device; the
-/// first cause is said where several hold.
+/// A set is stored under IOL_MANUAL with Backup and Restore, at the port's revision, for its device; if several
+/// causes hold, the first is reported.
 pub fn sets_stored()
     ensures passes { check (one_port example_config 1) (Store 1 1 example_set) ≡ None }
     ensures not_allowed { check (one_port (record example_config { validation = Validation.Restore }) 2) (Store 1 1 example_set)
@@ -225,8 +226,8 @@ pub fn sets_stored()
         ≡ Some CommandFault.WrongDevice }
 {}
 
-/// A set that is stored stands under the port's present configuration, and what was stored before it is the
-/// previous one; the one before that is gone. It changes neither the port's revision nor the other port.
+/// A stored set is recorded with the port's present configuration. The set stored before it becomes the previous
+/// one, and the one before that is deleted. Neither the port's revision nor the other port changes.
 pub fn sets_in_place()
     ensures first { apply (one_port example_config 1) (Store 1 1 example_set)
         ≡ record (port_of example_config 1) { stored = Some (record { set = example_set; recorded = example_config }) } ∷ [] }
@@ -250,8 +251,8 @@ pub fn sets_in_place()
         ≡ port_of example_config 1 ∷ example_port ∷ [] }
 {}
 
-/// Rollback exchanges the two sets of its port, and leaves its configuration, its revision and the other port;
-/// a second one makes what was before. Without a previous set it is refused.
+/// Rollback exchanges the two sets of its port, and leaves its configuration, its revision and the other port
+/// unchanged; a second Rollback restores the sets. Without a previous set it is refused.
 pub fn sets_exchanged()
     ensures passes { check (renewed_port ∷ []) (Rollback 1) ≡ None }
     ensures exchanged { apply (renewed_port ∷ []) (Rollback 1)
@@ -265,7 +266,7 @@ pub fn sets_exchanged()
     ensures last_revision { check (record renewed_port { revision = 18446744073709551615 } ∷ []) (Rollback 1) ≡ None }
     ensures under_restore { check (record renewed_port { config = record example_config { validation = Validation.Restore } } ∷ [])
         (Rollback 1) ≡ None }
-    // Each set goes with the configuration that it was taken under.
+    // Each set keeps the configuration that it was taken under.
     ensures with_labels { apply (record renewed_port {
       stored = Some (record newer_stored { recorded = record example_config { label = codes "Pump 3" } });
     } ∷ []) (Rollback 1)
@@ -275,7 +276,7 @@ pub fn sets_exchanged()
         } ∷ [] }
 {}
 
-/// Each command is judged in the state that those before it make.
+/// Each command is judged in the state that the commands before it leave.
 pub fn commands_in_a_row()
     ensures legal { legal (empty_state 1) (Configure 1 example_config ∷ Store 1 1 example_set ∷ []) ≡ true }
     ensures later { legal (empty_state 1) (Store 1 1 example_set ∷ Configure 1 example_config ∷ []) ≡ false }
@@ -289,7 +290,7 @@ pub fn commands_in_a_row()
     ensures one_store { legal (empty_state 1) (Configure 1 example_config ∷ Store 1 1 example_set ∷ Rollback 1 ∷ []) ≡ false }
 {}
 
-/// A change is the command of its words, and a Store alone carries a set.
+/// A change becomes the command of the same kind, and only a Store carries a set.
 pub fn words_of_commands()
     ensures configure { (config : PortConfig) → command_of (Change.Configure 1 config) ≡ Configure 1 config }
     ensures clear { command_of (Change.Clear 1) ≡ Clear 1 }
@@ -299,8 +300,8 @@ pub fn words_of_commands()
         ≡ None ∷ None ∷ Some example_set ∷ None ∷ [] }
 {}
 
-/// The set of the examples counts 11 octets, and what it refuses: a reserved Index before a length,
-/// a length before a double key.
+/// The example set counts 11 octets. A reserved Index is refused before a length, and a length before a duplicate
+/// key.
 pub fn entries_added()
     ensures octets { octets_of example_set.entries ≡ 11 }
     ensures reserved { add_fault example_set.entries (record { index = 3; subindex = 1 }) (replicate 233 0) ≡ Some AddFault.ReservedKey }
@@ -309,7 +310,7 @@ pub fn entries_added()
     ensures another { add_fault example_set.entries (record { index = 64; subindex = 1 }) (replicate 232 0) ≡ None }
 {}
 
-/// Entries count 4,096 octets at most; a double key is told before that.
+/// Entries count at most 4,096 octets; a duplicate key is reported before a set that is too large.
 pub fn full_sets()
     ensures octets { octets_of nearly_full ≡ 4012 }
     ensures fits { add_fault nearly_full (record { index = 65; subindex = 0 }) (replicate 80 0) ≡ None }
@@ -317,8 +318,7 @@ pub fn full_sets()
     ensures duplicate { add_fault nearly_full (record { index = 64; subindex = 0 }) (replicate 81 0) ≡ Some AddFault.Duplicate }
 {}
 
-/// What a set holds is in its ranges: an entry has 232 octets at most, and no key is reserved or stands
-/// twice.
+/// All values of a set are in range: an entry has at most 232 octets, and no key is reserved or occurs twice.
 pub fn what_is_a_set()
     ensures set { IsSet example_set }
     ensures longest { IsEntry (record { index = 64; subindex = 0 }, replicate 232 0) }
@@ -331,7 +331,8 @@ pub fn what_is_a_set()
     ensures checksum { ¬ IsSet (record example_set { checksum = 4294967296 }) }
 {}
 
-/// A command names a port from 1 to 32, and its set is one; a port may have what is stored for it.
+/// A command names a port from 1 to 32, and its set is a valid one; a port may have the sets that are stored for
+/// it.
 pub fn what_is_a_command()
     ensures configure { IsCommand (Configure 32 example_config) }
     ensures clear { ¬ IsCommand (Clear 33) }
@@ -343,7 +344,7 @@ pub fn what_is_a_command()
     ensures previous_alone { ¬ IsPort (record example_port { stored = None; previous = Some example_stored }) }
 {}
 
-/// A key has the octets of its own entry: of its Index and its Subindex.
+/// A look-up finds the octets of the entry with exactly this Index and Subindex.
 pub fn octets_by_key()
     ensures first { data_at example_set.entries (record { index = 64; subindex = 0 }) ≡ Some (10 ∷ 100 ∷ []) }
     ensures second { data_at example_set.entries (record { index = 65; subindex = 1 }) ≡ Some (127 ∷ []) }
@@ -367,7 +368,7 @@ pub fn set_limits()
     ensures set { MOST_SET_OCTETS ≡ 4096 }
 {}
 
-/// A part has at most 512 octets of whole entries: with two of 232 octets one of 36 fits, and one of 37
+/// A part has at most 512 octets of whole entries: after two entries of 232 octets, one of 36 fits, and one of 37
 /// begins another part.
 pub fn whole_entries()
     ensures limit { PART_OCTETS ≡ 512 }
@@ -378,8 +379,8 @@ pub fn whole_entries()
     ensures begins { map length (parts_of (replicate 2 (sevens 232) ++ sevens 37 ∷ [])) ≡ 472 ∷ 41 ∷ [] }
 {}
 
-/// The entries of a set that counts 4,096, of which 17 have 232 octets and one has 80, are nine parts:
-/// eight of 472 octets, and one of 320.
+/// A set with 17 entries of 232 octets and one of 80 counts 4,096. Its entries fill nine parts: eight of 472
+/// octets, and one of 320.
 pub fn nine_parts()
     ensures counted { octets_of (nearly_full ++ sevens 80 ∷ []) ≡ 4096 }
     ensures parts { map length (parts_of (nearly_full ++ sevens 80 ∷ [])) ≡ replicate 8 472 ++ 320 ∷ [] }

@@ -1,4 +1,4 @@
-//! The entries of a set in memory: their parts, and where in them the octets of each key lie.
+//! The entries of a set in memory: their parts, and where in these the octets of each key are.
 ghost use Rattle.std.specs.Prelude.{◌≡◌, ◌≤◌, [], ◌∷◌, ◌++◌, length, slice_get, is_some, OnOk, OnErr, None};
 ghost use Rattle.std.specs.Option.{option_copied, option_map};
 ghost use Rattle.iol_types.specs.Parts.{entry_octets};
@@ -11,7 +11,7 @@ use indexmap::IndexMap;
 use std::alloc::{AllocError, Global};
 use std::marker::Model;
 
-// Entries, each behind the one that came before it. A contract sees them as a list.
+// Entries in the order in which they were added. A contract sees them as a list.
 #[derive(Debug, Drop)]
 pub(crate) struct Entries {
     places: IndexMap<Key, PartPlace>,
@@ -37,7 +37,7 @@ impl Entries {
     ghost use Rattle.iol_types.specs.Key.{IsKey};
     ghost use Rattle.iol_types.specs.Parts.{parts_of};
 
-    // No entries. It takes no memory.
+    // Makes an empty list. It allocates no memory.
     pub(crate) fn new(alloc: Global) -> Entries
         ensures { result ≡ [] }
     {
@@ -48,7 +48,7 @@ impl Entries {
         }
     }
 
-    // The octets that a key has, if it is there.
+    // The octets of a key, if there is an entry for it.
     pub(crate) fn get(&self, key: Key) -> Option<&[u8]>
         ensures { option_copied result ≡ data_at self.now key }
     {
@@ -58,14 +58,14 @@ impl Entries {
         }
     }
 
-    // Whether a key is there.
+    // Whether there is an entry for a key.
     pub(crate) fn has(&self, key: Key) -> bool
         ensures { result ≡ is_some (data_at self.now key) }
     {
         self.places.contains_key(&key)
     }
 
-    // An entry by its number, from 0, if it is there.
+    // The entry with this number, counted from 0, if there is one.
     pub(crate) fn entry(&self, number: usize) -> Option<(Key, &[u8])>
         ensures { option_map (λ entry. (entry.0, entry.1.now)) result ≡ slice_get self.now number }
     {
@@ -75,7 +75,7 @@ impl Entries {
         }
     }
 
-    // How many entries there are.
+    // The number of entries.
     pub(crate) fn len(&self) -> usize
         ensures { result ≡ length self.now }
     {
@@ -89,7 +89,7 @@ impl Entries {
         self.octets
     }
 
-    // How many parts there are.
+    // The number of parts.
     pub(crate) fn parts(&self) -> usize
         ensures { result ≡ length (parts_of self.now) }
     {
@@ -100,7 +100,7 @@ impl Entries {
         }
     }
 
-    // A part by its number, from 0, if it is there.
+    // The part with this number, counted from 0, if there is one.
     pub(crate) fn part(&self, number: usize) -> Option<&[u8]>
         ensures { option_copied result ≡ slice_get (parts_of self.now) number }
     {
@@ -111,7 +111,7 @@ impl Entries {
         }
     }
 
-    // Puts an entry behind the others, and makes room for so many, this one too.
+    // Appends an entry, and reserves space for `room` entries, this one included.
     pub(crate) fn push(&mut self, key: Key, octets: &[u8], room: usize) -> Result<(), AllocError>
         requires { add_fault self.old key octets.now ≡ None }
         ensures range { IsKey key }
@@ -120,14 +120,14 @@ impl Entries {
     {
         self.places.reserve(room.max(1))?;
         let place = self.parts.push(head_of(key, octets), octets)?;
-        // There is room now, so it goes in.
+        // Space is reserved, so the insertion cannot fail.
         let _ = self.places.insert(key, place);
         self.octets += ENTRY_HEAD_OCTETS + octets.len();
         Ok(())
     }
 }
 
-// What stands in front of an entry's octets in a record.
+// The octets in front of an entry's data in a record.
 fn head_of(key: Key, octets: &[u8]) -> [u8; ENTRY_HEAD_OCTETS]
     requires { length octets.now ≤ MOST_ENTRY_OCTETS }
     ensures { result ++ octets.now ≡ entry_octets (key, octets.now) }

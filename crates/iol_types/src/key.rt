@@ -9,7 +9,7 @@ pub const SYSTEM_COMMAND: u16 = 0x0002;
 /// The Index of the Data Storage object.
 pub const DATA_STORAGE: u16 = 0x0003;
 
-/// The name of a parameter: an Index, and a Subindex, where 0 is the whole object (IO-Link V1.1,
+/// The name of a parameter: an Index and a Subindex; Subindex 0 is the whole object (IO-Link V1.1,
 /// ISDU).
 #[derive(Clone, Copy, Debug, PartialEq, Eq, Hash)]
 pub struct Key {
@@ -18,8 +18,8 @@ pub struct Key {
 }
 
 impl Key {
-    /// Whether no parameter set holds the key, whatever its Subindex: Direct Parameter page 1, the
-    /// System Command and the Data Storage object are not a device's parameters.
+    /// Whether the key is excluded from parameter sets, whatever its Subindex: Direct Parameter page 1,
+    /// the System Command and the Data Storage object are not a device's parameters.
     pub fn is_reserved(self) -> bool
         ensures reserved { result ≡ is_reserved self }
         ensures range { IsKey self }

@@ -1,4 +1,4 @@
-//! What plant staff call a port.
+//! The label of a port, the name that plant staff give it.
 ghost use Rattle.std.specs.Prelude.{◌≡◌, ◌≤◌, ◌↔◌, [], length, true, IsTrue, IsSome, IfSome};
 ghost use Rattle.std.specs.Str.{bytes_eq};
 ghost use Rattle.std.specs.List.{list_all};
@@ -8,22 +8,22 @@ ghost use Rattle.iol_types.specs.declared.label.TheConstants.{MOST_LABEL_OCTETS}
 use std::marker::Model;
 use std::{fmt, str};
 
-/// The most octets that a label has.
+/// The maximum number of octets of a label.
 pub const MOST_LABEL_OCTETS: usize = 32;
 
-// A label is printed between quotation marks, so it has none.
+// A label is printed between quotation marks, so it contains none.
 pub(crate) const QUOTATION_MARK: u8 = 0x22;
 
-// The first and the last octet that print something, which are a space and a tilde.
+// The first and the last printable octet, a space and a tilde.
 pub(crate) const FIRST_PRINTED: u8 = 0x20;
 
 pub(crate) const LAST_PRINTED: u8 = 0x7E;
 
-/// The label of a port, which plant staff read in place of its number: at most 32 octets, each from 20 to 7E but 22, the quotation
-/// mark. A contract sees its octets.
+/// The label of a port, which plant staff read in place of its number: at most 32 octets, each from 20 to 7E except 22,
+/// the quotation mark. A contract sees its octets.
 #[derive(Clone, Copy, Debug)]
 pub struct Label {
-    // Behind those of the label its octets are 00.
+    // The octets after those of the label are 00.
     octets: [u8; MOST_LABEL_OCTETS],
     count: u8,
 }
@@ -43,7 +43,7 @@ impl Model for Label {
     ghost inverse_ok = { λ l h i. record { octets = h.padded i; count = h.counted i } };
 }
 
-/// Labels are equal where their octets are.
+/// Labels are equal if their octets are.
 impl PartialEq for Label {
     ghost use Rattle.std.specs.Cmp.{partial_equiv_from_equiv};
     ghost use Rattle.iol_types.specs.Sameness.{same_label-laws};
@@ -67,7 +67,7 @@ impl Eq for Label {
 }
 
 impl Label {
-    /// The label of these octets, or `None` where there are more than 32, or one of them is below 20, over 7E, or 22.
+    /// The label of these octets, or `None` if there are more than 32, or one of them is below 20, over 7E, or 22.
     pub fn new(octets: &[u8]) -> Option<Label>
         ensures range { IsSome result ↔ (is_label octets.now ≡ true) }
         ensures label { IfSome result (λ label. label ≡ octets.now) }
@@ -83,7 +83,7 @@ impl Label {
         })
     }
 
-    /// The label of a port that was given none: no octets.
+    /// The empty label, of a port that was given none.
     pub fn empty() -> Label
         ensures { result ≡ [] }
     {
@@ -93,7 +93,7 @@ impl Label {
         }
     }
 
-    /// Its octets.
+    /// The octets of the label.
     pub fn octets(&self) -> &[u8]
         ensures octets { result.now ≡ self.now }
         ensures label { is_label self.now ≡ true }
@@ -102,18 +102,18 @@ impl Label {
         &self.octets[..usize::from(self.count)]
     }
 
-    /// It as a text.
+    /// The label as a text.
     pub fn as_str(&self) -> &str
         ensures { result.now ≡ self.now }
     {
         match str::from_utf8(self.octets()) {
             Ok(text) => text,
-            // Octets of ASCII are UTF-8.
+            // ASCII octets are valid UTF-8.
             Err(_) => unreachable!(),
         }
     }
 
-    /// How many octets it has, 0 to 32.
+    /// The number of octets, 0 to 32.
     pub fn len(&self) -> usize
         ensures count { result ≡ length self.now }
         ensures bound { result ≤ 32 }
@@ -121,7 +121,7 @@ impl Label {
         usize::from(self.count)
     }
 
-    /// Whether it has no octets.
+    /// Whether the label has no octets.
     pub fn is_empty(&self) -> bool
         ensures { IsTrue result ↔ (self.now ≡ []) }
     {
@@ -129,7 +129,7 @@ impl Label {
     }
 }
 
-/// It is printed as its octets, which are those of ASCII.
+/// A label is printed as its octets, which are ASCII.
 impl fmt::Display for Label {
     ghost use Rattle.std.specs.Prelude.{Some};
 
@@ -140,7 +140,7 @@ impl fmt::Display for Label {
     }
 }
 
-// Whether each of these octets may stand in a label.
+// Whether each of these octets is allowed in a label.
 fn may_all_stand(octets: &[u8]) -> bool
     ensures { result ≡ list_all is_label_octet octets.now }
 {

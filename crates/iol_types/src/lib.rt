@@ -1,16 +1,16 @@
 //! What an IO-Link master keeps for its ports, and the commands that change it.
 //!
-//! Numbers come in through types that hold their ranges: [`PortId`], [`DeviceId`], [`PortMode`],
-//! [`Validation`]. With a [`Label`] they make up a port's [`PortConfig`]. A [`SetBuilder`] takes a device's parameters,
-//! each under its [`Key`], and makes a [`DataSet`] of them. A [`Command`] carries a configuration or a
-//! set, and a [`Change`] is a command that a client may ask for. A [`MasterState`] holds a
-//! [`PortState`] for each port; it checks a command and applies it. All lists of commands, on a disk
-//! or in a queue, act through these two calls alone.
+//! Numbers are held in types that enforce their ranges: [`PortId`], [`DeviceId`], [`PortMode`],
+//! [`Validation`]. With a [`Label`] they make up a port's [`PortConfig`]. A [`SetBuilder`] takes a device's
+//! parameters, each under its [`Key`], and makes a [`DataSet`] of them. A [`Command`] may carry a
+//! configuration or a set, and a [`Change`] is a command that a client may request. A [`MasterState`] holds a
+//! [`PortState`] for each port; it checks a command and applies it. All lists of commands, on a disk or in a
+//! queue, act only through these two calls.
 //!
 //! Modules in reading order: `port_id`, `device_id`, `label`, `config`, `key`, `data_set`, `set_builder`,
-//! `parts`, `kept_entries`, `command`, `port_state`, `master_state`, `examples` (values worked out). What a configuration, a set,
-//! a command and a state are to a contract stands in `specs/Config.antt`, `specs/DataSet.antt`,
-//! `specs/Command.antt` and `specs/State.antt`.
+//! `parts`, `kept_entries`, `command`, `port_state`, `master_state`, `examples` (worked examples). What a
+//! configuration, a set, a command and a state are to a contract is defined in `specs/Config.antt`,
+//! `specs/DataSet.antt`, `specs/Command.antt` and `specs/State.antt`.
 #![tactic(auto)]
 
 mod command;

@@ -9,8 +9,8 @@ use crate::port_state::{LAST_REVISION, PortState};
 use std::alloc::{AllocError, Global};
 use std::marker::Model;
 
-/// The state of a master: a [`PortState`] for each of its ports, which stay as many as they were
-/// made. A contract sees the list `State` of `specs/State.antt`, port 1 first.
+/// The state of a master: a [`PortState`] for each of its ports. The number of ports never changes. A
+/// contract sees the list `State` of `specs/State.antt`, port 1 first.
 #[derive(Debug, Drop)]
 pub struct MasterState {
     ports: Vec<PortState>,
@@ -36,7 +36,7 @@ impl MasterState {
     /// and revision 0.
     ///
     /// # Errors
-    /// `AllocError` where it is out of memory; a master without ports takes none.
+    /// `AllocError` if out of memory; a master without ports needs none.
     pub fn new(alloc: Global, ports: u8) -> Result<MasterState, AllocError>
         requires { ports ≤ PORTS }
         ensures empty { IfOk result (λ state. state ≡ empty_state ports) }
@@ -52,7 +52,7 @@ impl MasterState {
     /// An equal state, under the same allocator.
     ///
     /// # Errors
-    /// `AllocError` where it is out of memory; a master without ports takes none.
+    /// `AllocError` if out of memory; a master without ports needs none.
     pub fn copy(&self) -> Result<MasterState, AllocError>
         ensures copy { IfOk result (λ state. state ≡ self.now) }
         ensures memory { OnErr result (1 ≤ length self.now) }
@@ -64,7 +64,7 @@ impl MasterState {
         Ok(MasterState { ports })
     }
 
-    /// How many ports there are, at most [`PORTS`](crate::PORTS).
+    /// The number of ports, at most [`PORTS`](crate::PORTS).
     pub fn ports(&self) -> u8
         ensures count { result ≡ length self.now }
         ensures bound { result ≤ PORTS }
@@ -72,14 +72,14 @@ impl MasterState {
         self.ports.len() as u8
     }
 
-    /// The port with this number, or `None` where the master has no such port.
+    /// The port with this number, or `None` if the master has no such port.
     pub fn port(&self, port: PortId) -> Option<&PortState>
         ensures { option_copied result ≡ port_numbered self.now port }
     {
         self.ports.get(port.place())
     }
 
-    /// Puts a port in place of the one with this number; the others stay as they are.
+    /// Replaces the port with this number; the others stay as they are.
     pub fn set_port(&mut self, port: PortId, state: PortState)
         requires { port ≤ length self.old }
         ensures { self.new ≡ with_port self.old port state }
@@ -87,14 +87,14 @@ impl MasterState {
         self.ports[port.place()] = state;
     }
 
-    /// Whether a command may be applied.
+    /// Checks whether a command may be applied.
     ///
     /// # Errors
-    /// The first cause, in the order of [`CommandFault`]: `UnknownPort` where the master has no such
-    /// port; for Configure `RevisionSpent` where the port is at [`LAST_REVISION`]; for Store
-    /// `NotAllowed` where the port is not IOL_MANUAL with Backup and Restore, `StaleRevision` where it
-    /// is at another revision, `WrongDevice` where its configuration names another device; for Rollback
-    /// `NoPrevious` where the port has no previous set.
+    /// The first cause, in the order of [`CommandFault`]. `UnknownPort` if the master has no such port.
+    /// For Configure `RevisionSpent` if the port is at [`LAST_REVISION`]. For Store `NotAllowed` if the
+    /// port is not IOL_MANUAL with Backup and Restore, `StaleRevision` if it is at another revision, and
+    /// `WrongDevice` if its configuration names another device. For Rollback `NoPrevious` if the port
+    /// has no previous set.
     pub fn check(&self, command: &Command) -> Result<(), CommandFault>
         ensures passes { OnOk result (check self.now (value_of command.now) ≡ None) }
         ensures refused { IfErr result (λ fault. check self.now (value_of command.now) ≡ Some fault) }
@@ -129,10 +129,9 @@ impl MasterState {
     }
 
     /// Applies a command that passes [`check`](MasterState::check). Configure gives the port its
-    /// configuration and the next revision, and deletes its sets unless
-    /// [`keeps_set`](crate::keeps_set) holds; Clear deletes its sets; Store gives it a set, taken under
-    /// the present configuration, and the one that it had is the previous one from then on; Rollback
-    /// exchanges its set and the previous one.
+    /// configuration and the next revision, and deletes its sets unless [`keeps_set`](crate::keeps_set)
+    /// holds. Clear deletes its sets. Store gives it a set, taken under the present configuration; the
+    /// set that it had becomes the previous one. Rollback exchanges its set and the previous one.
     pub fn apply(&mut self, command: Command)
         requires { check self.old (value_of command) ≡ None }
         ensures { self.new ≡ apply self.old (value_of command) }

@@ -1,4 +1,4 @@
-//! The parts of a set: texts of at most 512 octets, each of whole entries as a record spells them.
+//! The parts of a set: texts of at most 512 octets, each of whole entries as in a record.
 ghost use Rattle.std.specs.Prelude.{◌≡◌, ◌≤◌, ◌<◌, ◌+◌, ◌++◌, length, slice_get, OnOk, OnErr, IfOk};
 ghost use Rattle.std.specs.Option.{option_copied};
 ghost use Rattle.iol_types.specs.declared.data_set.TheConstants.{ENTRY_HEAD_OCTETS};
@@ -9,10 +9,10 @@ use std::alloc::{AllocError, Global};
 use std::marker::Model;
 use std::mem::replace;
 
-/// The most octets that a part of a set has.
+/// The maximum number of octets of a part of a set.
 pub const PART_OCTETS: usize = 512;
 
-// Where octets lie: in which text, from which of its octets on, and how many.
+// The place of some octets: the number of their text, their offset in it, and how many there are.
 #[derive(Clone, Copy, Debug)]
 pub(crate) struct PartPlace {
     pub part: usize,
@@ -20,7 +20,7 @@ pub(crate) struct PartPlace {
     pub octets: usize,
 }
 
-// Texts one behind the other. A contract sees their octets: of those that are full, and of the last one.
+// Texts in order. A contract sees the octets of the full ones, and those of the last one.
 #[derive(Debug, Drop)]
 pub(crate) struct Parts {
     full: Vec<Vec<u8>>,
@@ -40,7 +40,7 @@ impl Model for Parts {
 impl Parts {
     ghost use Rattle.iol_types.specs.Parts.{IsWithin, no_parts, with_text, texts_of, octets_at, data_behind};
 
-    // No text yet. It takes no memory.
+    // Makes parts with one empty text. It allocates no memory.
     pub(crate) fn new(alloc: Global) -> Parts
         ensures { result ≡ no_parts }
     {
@@ -50,7 +50,7 @@ impl Parts {
         }
     }
 
-    // A text by its number, if it is there.
+    // The text with this number, if there is one.
     pub(crate) fn text(&self, number: usize) -> Option<&[u8]>
         ensures { option_copied result ≡ slice_get (texts_of self.now) number }
     {
@@ -63,7 +63,7 @@ impl Parts {
         }
     }
 
-    // How many texts there are, the last one too.
+    // The number of texts, the last one included.
     pub(crate) fn len(&self) -> usize
         ensures { result ≡ length (texts_of self.now) }
     {
@@ -82,8 +82,8 @@ impl Parts {
         &text[place.offset..place.offset + place.octets]
     }
 
-    // Puts the text of an entry behind the others, a head and octets, and tells where these octets lie. It takes room for one
-    // text at most.
+    // Appends the text of an entry, a head and octets, and returns the place of these octets. It allocates at most one
+    // text.
     pub(crate) fn push(
         &mut self,
         head: [u8; ENTRY_HEAD_OCTETS],
@@ -101,7 +101,7 @@ impl Parts {
         }
     }
 
-    // Puts a text behind the last one.
+    // Appends the text to the last one.
     fn extend_last(
         &mut self,
         head: [u8; ENTRY_HEAD_OCTETS],
@@ -118,13 +118,13 @@ impl Parts {
             octets: octets.len(),
         };
         self.last.reserve(PART_OCTETS - self.last.len())?;
-        // There is room now, so both go in.
+        // Space is reserved, so neither call can fail.
         let _ = self.last.extend_from_slice(&head);
         let _ = self.last.extend_from_slice(octets);
         Ok(place)
     }
 
-    // Makes a text the last one, and the one before full.
+    // Begins a new last text; the one before it is full.
     fn begin(
         &mut self,
         head: [u8; ENTRY_HEAD_OCTETS],
@@ -139,7 +139,7 @@ impl Parts {
         next.extend_from_slice(&head)?;
         next.extend_from_slice(octets)?;
         self.full.reserve(1)?;
-        // There is room now, so it goes in.
+        // Space is reserved, so the push cannot fail.
         let _ = self.full.push(replace(&mut self.last, next));
         Ok(PartPlace {
             part: self.full.len(),

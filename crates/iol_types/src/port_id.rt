@@ -4,7 +4,7 @@ ghost use Rattle.iol_types.specs.Numbers.{IsPortNumber};
 
 use std::marker::Model;
 
-/// The most ports that a master has; they are numbered from 1.
+/// The maximum number of ports of a master; they are numbered from 1.
 pub const PORTS: u8 = 32;
 
 /// The number of a port, 1 to 32.
@@ -27,7 +27,7 @@ impl Model for PortId {
 }
 
 impl PortId {
-    /// The port with this number, or `None` where it is not 1 to 32.
+    /// The port with this number, or `None` if it is not 1 to 32.
     pub fn new(number: u8) -> Option<PortId>
         ensures range { IsSome result ↔ IsPortNumber number }
         ensures number { IfSome result (λ port. port ≡ number) }

@@ -15,7 +15,7 @@ use std::marker::Model;
 use std::mem::swap;
 use std::sync::Arc;
 
-/// The last revision of a port: at this revision it takes no further configuration.
+/// The last revision of a port, at which it accepts no further configuration.
 pub const LAST_REVISION: u64 = u64::MAX;
 
 /// A parameter set that is stored for a port, and the configuration that it was taken under. A
@@ -30,7 +30,7 @@ impl StoredSet {
     ghost use Rattle.iol_types.specs.State.{may_have};
     ghost use Rattle.iol_types.specs.Port.{stored_of};
 
-    // Whether a port under this configuration may have it.
+    // Whether a port with this configuration may have the set.
     fn may_stay(&self, config: &PortConfig) -> bool
         ensures { result ≡ may_have config.now (stored_of self.now) }
     {
@@ -40,7 +40,7 @@ impl StoredSet {
             && keeps_set(&self.recorded, config)
     }
 
-    // An equal one; the set is shared with it.
+    // An equal stored set, which shares the parameter set.
     fn copy(&self) -> Result<StoredSet, AllocError>
         ensures { IfOk result (λ stored. stored_of stored ≡ stored_of self.now) }
     {
@@ -51,7 +51,7 @@ impl StoredSet {
     }
 }
 
-// An equal one, if it is there; the set is shared with it.
+// An equal stored set, if there is one; it shares the parameter set.
 fn copied(stored: &Option<StoredSet>) -> Result<Option<StoredSet>, AllocError>
     ensures copy { IfOk result (λ copy. option_map stored_of copy ≡ option_map stored_of stored.now) }
     ensures memory { OnErr result (IsSome (option_map stored_of stored.now)) }
@@ -66,9 +66,9 @@ fn copied(stored: &Option<StoredSet>) -> Result<Option<StoredSet>, AllocError>
 /// set that is stored for it, if any, and the one that was stored before that, if any. A contract sees
 /// the record `Port` of `specs/State.antt`.
 ///
-/// Of each of these sets, the configuration that it was taken under is IOL_MANUAL with Backup and
-/// Restore and names the set's device, and [`keeps_set`](crate::keeps_set) holds from it to the
-/// present one. A previous set is there only where there is a present one.
+/// Each of these sets was taken under a configuration that is IOL_MANUAL with Backup and Restore and
+/// names the set's device, and [`keeps_set`](crate::keeps_set) holds from that configuration to the
+/// present one. There is a previous set only if there is a present one.
 #[derive(Debug, Drop)]
 pub struct PortState {
     config: PortConfig,
@@ -99,8 +99,8 @@ impl PortState {
     ghost use Rattle.iol_types.specs.Port.{stored_of};
 
     /// A port with this configuration at this revision, the set that is stored for it, and the previous
-    /// one; `None` where a port with this configuration may not have one of them, or where the previous
-    /// one stands alone.
+    /// one. It is `None` if a port with this configuration may not have one of them, or if there is only
+    /// a previous one.
     pub fn new(
         config: PortConfig,
         revision: u64,
@@ -186,10 +186,10 @@ impl PortState {
         self.previous.as_ref()
     }
 
-    /// An equal port; its sets are shared with it.
+    /// An equal port, which shares the sets.
     ///
     /// # Errors
-    /// `AllocError` where it is out of memory; a port without a set takes none.
+    /// `AllocError` if out of memory; a port without a set needs none.
     pub fn copy(&self) -> Result<PortState, AllocError>
         ensures copy { IfOk result (λ port. port ≡ self.now) }
         ensures memory { OnErr result (IsSome self.now.stored) }

@@ -1,4 +1,4 @@
-//! A parameter set that grows, entry by entry.
+//! A parameter set that is built entry by entry.
 ghost use Rattle.std.specs.Prelude.{◌≡◌, ◌≤◌, [], ◌∷◌, ◌++◌, IfErr, OnErr, OnOk, is_some, length, Some, None, ◌⊎◌};
 ghost use Rattle.iol_types.specs.declared.data_set.TheConstants.{MOST_ENTRY_OCTETS, MOST_SET_OCTETS};
 
@@ -19,7 +19,7 @@ pub enum AddFault {
     /// More than 232 octets.
     #[error("a parameter of more than 232 octets")]
     EntryTooLong,
-    /// The key is there already.
+    /// There is already an entry with this key.
     #[error("a parameter that is there already")]
     Duplicate,
     /// The entries would count more than 4,096 octets.
@@ -30,7 +30,7 @@ pub enum AddFault {
     Memory,
 }
 
-/// A parameter set that grows. A contract sees its entries, in their order.
+/// A parameter set that is being built. A contract sees its entries, in their order.
 #[derive(Drop)]
 pub struct SetBuilder {
     entries: Entries,
@@ -60,11 +60,11 @@ impl SetBuilder {
         }
     }
 
-    /// Adds an entry behind the others.
+    /// Appends an entry.
     ///
     /// # Errors
-    /// The first cause, in the order of [`AddFault`]; the entries are as they were. `Memory` only
-    /// where no other cause holds.
+    /// The first cause, in the order of [`AddFault`]; the entries stay as they were. `Memory` is returned
+    /// only if no other cause holds.
     pub fn add(&mut self, key: Key, octets: &[u8]) -> Result<(), AddFault>
         ensures added { OnOk result ((add_fault self.old key octets.now ≡ None) × (self.new ≡ self.old ++ (key, octets.now) ∷ [])) }
         ensures kept { OnErr result (self.new ≡ self.old) }
@@ -80,11 +80,12 @@ impl SetBuilder {
         }
     }
 
-    /// Puts an entry behind the others for which there is no cause of an [`AddFault`] but memory. Where `room` is more than 1 it makes
-    /// room for so many entries at once, so that the further ones take no memory but for their octets.
+    /// Appends an entry for which no cause of an [`AddFault`] but `Memory` holds. If `room` is more than 1,
+    /// it reserves space for `room` entries at once, so that the further ones allocate memory only for their
+    /// octets.
     ///
     /// # Errors
-    /// Memory ran out; the entries are as they were.
+    /// `AllocError` if out of memory; the entries stay as they were.
     pub fn append(&mut self, key: Key, octets: &[u8], room: usize) -> Result<(), AllocError>
         requires { add_fault self.old key octets.now ≡ None }
         ensures added { OnOk result (self.new ≡ self.old ++ (key, octets.now) ∷ []) }
@@ -93,7 +94,7 @@ impl SetBuilder {
         self.entries.push(key, octets, room)
     }
 
-    // Why an entry is not added.
+    // Why an entry may not be added, memory aside.
     fn fault(&self, key: Key, octets: &[u8]) -> Option<AddFault>
         ensures range { IsKey key }
         ensures fault { result ≡ add_fault self.now key octets.now }
@@ -111,7 +112,7 @@ impl SetBuilder {
         }
     }
 
-    /// Whether the key is there.
+    /// Whether there is an entry with this key.
     pub fn has(&self, key: Key) -> bool
         ensures { result ≡ is_some (data_at self.now key) }
     {
@@ -126,7 +127,7 @@ impl SetBuilder {
         self.entries.octets()
     }
 
-    /// The set of these entries, of the device with these numbers and this checksum. It takes no
+    /// Makes the set of these entries, for the device with these numbers and this checksum. It allocates no
     /// memory.
     pub fn finish(self, vendor: u16, device: DeviceId, checksum: u32) -> DataSet
         ensures { result ≡ record { entries = self; vendor = vendor; device = device; checksum = checksum } }

@@ -19,8 +19,8 @@ use std::os::unix::fs::FileExt;
 use std::rt::Files;
 
 /// Recovers the state on the image file at `path`, and returns the exit status: 0 once the state is written to `out` as one
-/// JSON object, and else 1. Where the recovery fails, a line on `err` says why, and nothing is written to `out`. Where
-/// writing to `out` fails, nothing is written to `err`.
+/// JSON object, and else 1. If the recovery fails, a line on `err` says why, and nothing is written to `out`. If writing to
+/// `out` fails, nothing is written to `err`.
 pub fn json_image<
     F: FileExt + OpenFile + LockFile + Drop,
     R: Files<File = F> + AllocGlobal,
@@ -38,7 +38,7 @@ pub fn json_image<
     }
 }
 
-// What is printed of the state on an image file.
+// What is printed for the state on an image file.
 fn text_of_image<'a, F: FileExt + OpenFile + LockFile + Drop, R: Files<File = F> + AllocGlobal>(
     rt: &R,
     path: &'a str,
@@ -49,7 +49,7 @@ fn text_of_image<'a, F: FileExt + OpenFile + LockFile + Drop, R: Files<File = F>
     json_of_disk(rt.alloc(), opened(rt, path)?)
 }
 
-/// What is printed of the state on a disk, or why nothing is: as for `show_disk`, or `Memory` for the text.
+/// What is printed for the state on a disk, or why nothing is: a fault of `show_disk`, or `Memory` for the text.
 pub fn json_of_disk<D: SectorDisk + Drop>(alloc: Global, disk: D) -> Result<String, Fault<'static>>
     ensures text { IfOk result (λ text. TellsStateAsJson (D.disk disk) (string_bytes text)) }
     ensures cause { IfErr result (λ fault. Shows (D.disk disk) (λ image. TellsWhy (standing_in (D.disk disk).sectors image) fault)) }
@@ -62,7 +62,7 @@ pub fn json_of_disk<D: SectorDisk + Drop>(alloc: Global, disk: D) -> Result<Stri
     }
 }
 
-// What is printed of a state that was recovered.
+// What is printed for a state that was recovered.
 fn json_of(alloc: Global, recovered: &Recovered) -> Result<String, Fault<'static>>
     ensures text { IfOk result (λ text. ReadsAs recovered.now.number recovered.now.state (string_bytes text)) }
     ensures cause { IfErr result (λ fault. fault ≡ Fault.Memory) }

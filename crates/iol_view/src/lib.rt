@@ -1,16 +1,16 @@
-//! What the program shows of an image file beside lines of text: the state on it as JSON, and its sectors as a map.
+//! Shows more of an image file than the lines of its state: the state as JSON, and a map of the sectors.
 //!
-//! In comes an image file, or a disk; out comes the state on it as a JSON object, or a map of its sectors, as text or as a
+//! Takes an image file or a disk, and returns the state on it as a JSON object, or a map of its sectors, as text or as a
 //! picture. Nothing is written to the disk.
 //!
 //! Modules in reading order:
 //! - `image` is the state on an image file as JSON.
 //! - `map_commands` has the commands that map an image file, and `map_disk` the map of a disk: `map_outcome` recovers it, and
 //!   `map_survey` reads it part by part, with `map_layouts`, `map_areas`, `map_front`, `map_ports` and `map_slots`, into the lines
-//!   of `map_lines`. `map_text` has them as text, `map_drawing`, `map_legend` and `map_cells` as a picture.
-//! - `map_examples` has lines and words worked out.
+//!   of `map_lines`. `map_text` writes them as text, and `map_drawing`, `map_legend` and `map_cells` draw them as a picture.
+//! - `map_examples` has examples of lines and words.
 //!
-//! What the JSON says is defined in `specs/Json.antt`, and what a map keeps in `specs/Map.antt`.
+//! `specs/Json.antt` defines what the JSON says, and `specs/Map.antt` what a map says.
 #![tactic(auto)]
 
 mod image;

@@ -23,14 +23,14 @@ pub(crate) fn add_areas<D: SectorDisk>(
     requires { total layouts.now.older ≤ (D.disk disk.old).sectors }
     ensures { Same (D.disk disk.old) (D.disk disk.new) }
 {
-    // Gates and headers stand where they do in each version.
+    // Gates and headers are at the same places in each version.
     let (a, b) = read_open_headers(disk, layouts.older)?;
     let chosen = greatest_of(layouts.older, a, b).ok();
     add_area(alloc, disk, layouts, Area::A, a, chosen, lines)?;
     add_area(alloc, disk, layouts, Area::B, b, chosen, lines)
 }
 
-// Adds the lines of an area, with its header where its gate is open, and the area that is in use, if one is.
+// Adds the lines of an area. `opened` is its header if its gate is open, and `chosen` the area that is in use, if one is.
 fn add_area<D: SectorDisk>(
     alloc: Global,
     disk: &mut D,
@@ -51,7 +51,7 @@ fn add_area<D: SectorDisk>(
     Ok(add_unused(alloc, layout, area, lines)?)
 }
 
-// Adds the line of the sectors of an area that are in no slot, where there are any.
+// Adds the line of the sectors of an area that are in no slot, if there are any.
 fn add_unused(
     alloc: Global,
     layout: Layout,

@@ -1,12 +1,12 @@
-//! The sectors of a line of a map, drawn as cells in SVG. Gates are told by their shapes, and so is what is damaged.
+//! Draws the sectors of a line of a map as cells in SVG. Gates are shown by their shapes, and so is damage.
 
 use crate::map_lines::{Cells, Gate};
 use std::fmt;
 
-// How far apart cells are, in units of the picture.
+// The distance between cells, in units of the picture.
 const CELL_STEP: usize = 12;
 
-// The gate in the first place, then the sectors that are used, then those that are not.
+// Writes the gate in the first place, then the sectors that are used, then those that are not.
 pub(crate) fn write_cells<W: fmt::Write>(f: &mut fmt::Formatter<W>, cells: Cells) -> fmt::Result {
     if let Some(gate) = cells.gate {
         write_gate(f, gate)?;
@@ -15,7 +15,7 @@ pub(crate) fn write_cells<W: fmt::Write>(f: &mut fmt::Formatter<W>, cells: Cells
     write_sectors(f, cells.used.saturating_add(1), cells.unused, "white")
 }
 
-// A square, with a ring in it where the gate is open, and with a cross where it is closed.
+// Writes a square, with a ring in it if the gate is open, and with a cross if it is closed.
 fn write_gate<W: fmt::Write>(f: &mut fmt::Formatter<W>, gate: Gate) -> fmt::Result {
     f.write_str("<rect width='10' height='10' fill='white' stroke='black'/>")?;
     match gate {
@@ -24,7 +24,7 @@ fn write_gate<W: fmt::Write>(f: &mut fmt::Formatter<W>, gate: Gate) -> fmt::Resu
     }
 }
 
-// So many sectors from this place on, each a square.
+// Writes `count` sectors from place `first` on, each as a square.
 fn write_sectors<W: fmt::Write>(
     f: &mut fmt::Formatter<W>,
     first: usize,
@@ -41,7 +41,7 @@ fn write_sectors<W: fmt::Write>(
     Ok(())
 }
 
-// A dashed frame around a gate and so many sectors: what is damaged.
+// Writes a dashed frame around a gate and `sectors` sectors, which marks damage.
 pub(crate) fn write_frame<W: fmt::Write>(f: &mut fmt::Formatter<W>, sectors: usize) -> fmt::Result {
     let wide = CELL_STEP
         .saturating_mul(sectors.saturating_add(1))

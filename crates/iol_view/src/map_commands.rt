@@ -17,8 +17,8 @@ use std::rt::Files;
 /// Writes a map of the image file at `path` to `out` (docs/FORMATS.md, "Maps"), and returns the exit status: 0 once that is
 /// done, whatever the file holds, and else 1. Nothing is written to the file.
 ///
-/// Where the file cannot be opened, is in use or cannot be read, or memory runs out, a line on `err` says so, and nothing is
-/// written to `out`. Where writing to `out` fails, nothing is written to `err`.
+/// If the file cannot be opened, is in use or cannot be read, or memory runs out, a line on `err` says so, and nothing is
+/// written to `out`. If writing to `out` fails, nothing is written to `err`.
 pub fn map_image<
     F: FileExt + OpenFile + LockFile + Drop,
     R: Files<File = F> + AllocGlobal,
@@ -36,11 +36,11 @@ pub fn map_image<
     }
 }
 
-/// Draws the map of the image file at `path` in SVG into the file at `picture`, which is made if there is none, writes a line
-/// to `out`, and returns the exit status: 0 once that is done, and else 1. Nothing is written to the image file, which is not
-/// the picture under another name either.
+/// Draws the map of the image file at `path` in SVG into the file at `picture`, which is made if there is none. Writes a line
+/// to `out`, and returns the exit status: 0 once that is done, and else 1. Nothing is written to the image file, even if
+/// `picture` is another name of it.
 ///
-/// Faults are those of [`map_image`], or that the picture cannot be opened, made or written, or is in use.
+/// The faults are those of [`map_image`], and that the picture cannot be opened, made or written, or is in use.
 pub fn draw_map<
     F: FileExt + OpenFile + LockFile + Drop,
     R: Files<File = F> + AllocGlobal,
@@ -58,7 +58,7 @@ pub fn draw_map<
     }
 }
 
-// What is printed of a map of the image file at this path.
+// What is printed for a map of the image file at this path.
 fn text_of_map<'a, F: FileExt + OpenFile + LockFile + Drop, R: Files<File = F> + AllocGlobal>(
     rt: &R,
     path: &'a str,
@@ -72,7 +72,7 @@ fn text_of_map<'a, F: FileExt + OpenFile + LockFile + Drop, R: Files<File = F> +
 /// The map of a disk as text, or why there is none: `Disk` or `Memory`.
 pub fn map_of_disk<D: SectorDisk + Drop>(alloc: Global, disk: D) -> Result<String, Fault<'static>>
     ensures text { IfOk result (λ text. TellsMap (D.disk disk) (string_bytes text)) }
-    // Whatever is on the disk has a map.
+    // Whatever is on the disk, it has a map.
     ensures cause { IfErr result IsMapCause }
     ensures status { IfErr result (λ fault. status_of fault ≡ 1) }
 {
@@ -82,7 +82,7 @@ pub fn map_of_disk<D: SectorDisk + Drop>(alloc: Global, disk: D) -> Result<Strin
     Ok(text)
 }
 
-// Draws the map of the image file at `path` into the file at `picture`; what is printed of that.
+// Draws the map of the image file at `path` into the file at `picture`, and returns what is printed.
 fn draw<'a, F: FileExt + OpenFile + LockFile + Drop, R: Files<File = F> + AllocGlobal>(
     rt: &R,
     path: &'a str,
@@ -102,7 +102,7 @@ fn name_of(path: &str) -> &str {
     }
 }
 
-// Draws the map of a disk with this name into the file at `picture`; what is printed of that.
+// Draws the map of a disk with this name into the file at `picture`, and returns what is printed.
 fn draw_disk<
     'a,
     D: SectorDisk + Drop,
@@ -112,7 +112,7 @@ fn draw_disk<
     ensures text { IfOk result (λ text. (sectors : ℕ) × (string_bytes text ≡ mapped_text sectors)) }
     ensures status { IfErr result (λ fault. status_of fault ≡ 1) }
 {
-    // The disk stays open, and an image locked, while the picture is written.
+    // The disk stays open while the picture is written, and so an image file stays locked.
     let Mapped { map, disk: _open } = map_disk(rt.alloc(), disk);
     match map {
         Ok(map) => draw_into(rt, &Drawing { map: &map, name }, picture),
@@ -120,7 +120,7 @@ fn draw_disk<
     }
 }
 
-// Draws a map into the file at `picture`; what is printed of that.
+// Draws a map into the file at `picture`, and returns what is printed.
 fn draw_into<'a, F: FileExt + OpenFile + LockFile + Drop, R: Files<File = F> + AllocGlobal>(
     rt: &R,
     drawing: &Drawing<'_>,
@@ -133,7 +133,7 @@ fn draw_into<'a, F: FileExt + OpenFile + LockFile + Drop, R: Files<File = F> + A
     Ok(mapped(rt.alloc(), drawing.map.sectors)?)
 }
 
-// Makes the drawing of a map all that the file at `picture` holds.
+// Replaces the content of the file at `picture` by the drawing of a map.
 fn write_drawing<'a, F: FileExt + OpenFile + LockFile + Drop, R: Files<File = F> + AllocGlobal>(
     rt: &R,
     drawing: &Drawing<'_>,
@@ -145,7 +145,7 @@ fn write_drawing<'a, F: FileExt + OpenFile + LockFile + Drop, R: Files<File = F>
     write_picture(rt, picture, text.as_str())
 }
 
-// What is printed of a picture.
+// What is printed for a picture.
 fn mapped(alloc: Global, sectors: usize) -> Result<String, AllocError>
     ensures { IfOk result (λ text. string_bytes text ≡ mapped_text sectors) }
 {

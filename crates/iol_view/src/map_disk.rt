@@ -1,4 +1,4 @@
-//! The map of a disk, and the disk behind it.
+//! The map of a disk, and the disk after it was read.
 ghost use Rattle.std.specs.Prelude.{◌≡◌, IfErr, IfOk};
 ghost use Rattle.iol_disk.specs.Content.{IsImage};
 ghost use Rattle.iol_disk.specs.Moments.{LeavesOnly};
@@ -20,11 +20,11 @@ pub(crate) struct Mapped<D: SectorDisk> {
     pub disk: D,
 }
 
-// Recovers a disk, and makes a map of it: `Disk` or `Memory` where that fails.
+// Recovers a disk, and makes a map of it, or reports `Disk` or `Memory` if that fails.
 pub(crate) fn map_disk<D: SectorDisk>(alloc: Global, disk: D) -> Mapped<D>
     ensures told { IfOk result.map (λ map. TellsOutcome (D.disk disk) map.outcome) }
     ensures sectors { IfOk result.map (λ map. map.sectors ≡ (D.disk disk).sectors) }
-    // Nothing is written: each image is one of those before.
+    // Nothing is written: each image is one that was possible before.
     ensures any_moment { LeavesOnly (D.disk disk) (D.disk result.disk) (IsImage (D.disk disk).content) }
     ensures cause { IfErr result.map IsMapCause }
     ensures status { IfErr result.map (λ fault. status_of fault ≡ 1) }
@@ -56,7 +56,7 @@ pub(crate) fn map_disk<D: SectorDisk>(alloc: Global, disk: D) -> Mapped<D>
     }
 }
 
-// Why a part of a disk was not read: damage is told in its line, so that nothing but memory is left.
+// Why a part of a disk was not read. Damage is reported in the line of the part, so the only other cause is memory.
 fn unread(cause: RecoverCause) -> Fault<'static>
     ensures cause { IsMapCause result }
     ensures status { status_of result ≡ 1 }

@@ -1,4 +1,4 @@
-//! A map as a picture, in SVG: each line of the map, after its sectors as cells.
+//! A map as a picture in SVG: each line of the map, with its sectors before it as cells.
 
 use crate::map_cells::{write_cells, write_frame};
 use crate::map_legend::write_legend;
@@ -6,18 +6,18 @@ use crate::map_lines::{Line, Part};
 use crate::map_text::{Map, damage_text, write_front};
 use std::fmt;
 
-// How far apart lines are, in units of the picture.
+// The distance between lines, in units of the picture.
 const LINE_STEP: usize = 18;
-// How wide a letter is at most.
+// The largest width of a letter.
 const LETTER: usize = 8;
-// Where the texts of lines begin, after a gate and 17 sectors.
+// The left edge of the texts of lines, after a gate and 17 sectors.
 const TEXT_LEFT: usize = 230;
-// How many letters a line has at most beside its text.
+// The largest number of letters that a line has besides its text.
 const FRONT_LETTERS: usize = 76;
-// The lines of the head and the legend, and the space below the last line.
+// The number of lines of the head and the legend, and of the space below the last line.
 const OTHER_LINES: usize = 6;
 
-// A map to be drawn, of an image file with this name.
+// A map to draw, of an image file with this name.
 #[derive(Drop)]
 pub(crate) struct Drawing<'a> {
     pub map: &'a Map,
@@ -53,7 +53,7 @@ fn said_geometry(lines: &[Line]) -> Option<&str> {
     lines.first()?.text.as_str().strip_prefix("geometry, ")
 }
 
-// How wide a picture of these lines is.
+// The width of a picture of these lines.
 fn width(lines: &[Line]) -> usize {
     let mut longest = 0;
     for line in lines {
@@ -63,12 +63,12 @@ fn width(lines: &[Line]) -> usize {
     TEXT_LEFT.saturating_add(LETTER.saturating_mul(letters))
 }
 
-// How high it is.
+// The height of a picture of these lines.
 fn height(lines: &[Line]) -> usize {
     LINE_STEP.saturating_mul(lines.len().saturating_add(OTHER_LINES))
 }
 
-// The head of a picture, of this size, and its background. It is shown as wide as the page, and no wider than its size.
+// Writes the head of a picture of this size, and its background. It is shown as wide as the page, but no wider than its size.
 fn write_head<W: fmt::Write>(
     f: &mut fmt::Formatter<W>,
     width: usize,
@@ -83,7 +83,7 @@ fn write_head<W: fmt::Write>(
     writeln!(f, "<rect width='{width}' height='{height}' fill='white'/>")
 }
 
-// The lines, one below the other.
+// Writes the lines, one below the other.
 fn write_lines<W: fmt::Write>(f: &mut fmt::Formatter<W>, lines: &[Line]) -> fmt::Result {
     let mut top = LINE_STEP * (OTHER_LINES - 1);
     for line in lines {
@@ -93,7 +93,7 @@ fn write_lines<W: fmt::Write>(f: &mut fmt::Formatter<W>, lines: &[Line]) -> fmt:
     Ok(())
 }
 
-// A line, so far from the top. A rule is above that of an area.
+// Writes a line at this distance from the top. The line of an area has a rule above it.
 fn write_line<W: fmt::Write>(f: &mut fmt::Formatter<W>, top: usize, line: &Line) -> fmt::Result {
     write!(f, "<g transform='translate(10 {top})'><title>")?;
     write_words(f, line)?;
@@ -110,14 +110,14 @@ fn write_line<W: fmt::Write>(f: &mut fmt::Formatter<W>, top: usize, line: &Line)
     f.write_str("</text></g>\n")
 }
 
-// The words of a line, which are also the title of its cells.
+// Writes the words of a line, which are also the title of its cells.
 fn write_words<W: fmt::Write>(f: &mut fmt::Formatter<W>, line: &Line) -> fmt::Result {
     write_front(f, line)?;
     write_escaped(f, line.text.as_str())?;
     f.write_str(damage_text(line.damaged))
 }
 
-// A text as XML has it. A label or a name may have what XML reads as its own, and a name what it does not take at all.
+// Writes a text as XML. A label or a name may have characters that XML escapes, and a name also some that XML does not allow.
 fn write_escaped<W: fmt::Write>(f: &mut fmt::Formatter<W>, text: &str) -> fmt::Result {
     for character in text.chars() {
         match character {

@@ -1,4 +1,5 @@
-//! Lines of a map, worked out by the check: a text that is wrong in a definition and in the code alike is refused here.
+//! Examples of the lines of a map, computed by the prover: if a text is wrong in a definition and in the code alike, its example
+//! fails.
 ghost use Rattle.std.specs.Prelude.{◌≡◌, ℕ, [], ◌∷◌, ◌++◌, map, codes, Some, None};
 ghost use Rattle.iol_record.specs.declared.version.Version.TheVariants.{One, Two};
 ghost use Rattle.iol_journal.specs.Area.TheVariants.{A, B};
@@ -16,14 +17,14 @@ pub fn spans()
     ensures several { span_text (codes "slot") (record { first = 5; last = 256 }) ≡ codes "slots 5 to 256" }
 {}
 
-/// What a recovery comes to.
+/// The outcomes of a recovery.
 pub fn outcomes()
     ensures { map outcome_text (ending.Recovered 3 ∷ ending.NotFormatted ∷ ending.TooSmall ∷ ending.Damaged 39 ∷ [])
         ≡ codes "recovered 3" ∷ codes "not recovered: the disk is not formatted" ∷ codes "not recovered: the disk is too small"
         ∷ codes "not recovered: damaged at sector 39" ∷ [] }
 {}
 
-/// What a line is of.
+/// The parts of a disk that lines show.
 pub fn parts()
     ensures areas { map (λ p. part_text p (record { first = 0; last = 0 })) (part.Alone ∷ part.AreaA ∷ part.AreaB ∷ [])
         ≡ [] ∷ codes "area A, " ∷ codes "area B, " ∷ [] }
@@ -32,7 +33,7 @@ pub fn parts()
     ensures unused { part_text part.Unused (record { first = 0; last = 0 }) ≡ codes "  " }
 {}
 
-/// An area that is in use, one that is older, one beside which none is in use, and one that is closed.
+/// An area that is in use, one that is older, one that is open while no area is in use, and one that is closed.
 pub fn areas()
     ensures in_use { area_text stands.InUse (header_with Two 2 4)
         ≡ codes "gate open, epoch 2, base 4, version 2, in use: open, greatest epoch" }
@@ -45,7 +46,7 @@ pub fn areas()
     ensures none { standing_of A None ≡ stands.Undecided }
 {}
 
-/// How far a recovery comes in the slots of an area: at the first slot, and behind a closed gate.
+/// How far a recovery gets in the slots of an area: at the first slot, and after a closed gate.
 pub fn reaches()
     ensures first { map first_reach (stands.InUse ∷ stands.Older ∷ stands.Undecided ∷ stands.Closed ∷ [])
         ≡ reach.Next ∷ reach.Idle ∷ reach.Idle ∷ reach.Idle ∷ [] }
@@ -53,13 +54,13 @@ pub fn reaches()
         ≡ reach.Behind ∷ reach.Behind ∷ reach.Idle ∷ [] }
 {}
 
-/// Slots whose gate is closed: the first of an area that is in use, one behind it, and one of the other area.
+/// Slots whose gate is closed: the first of an area that is in use, one after it, and one of the other area.
 pub fn closed_slots()
     ensures { map (slot_text 1 None) (reach.Next ∷ reach.Behind ∷ reach.Idle ∷ [])
         ≡ codes "gate closed, the first: slots behind it are not read" ∷ codes "gate closed" ∷ codes "gate closed" ∷ [] }
 {}
 
-/// Slots whose gate is open: with several commands, with one of another epoch, behind a closed gate, and with a head that
+/// Slots whose gate is open: with several commands, with one of another epoch, after a closed gate, and with a head that
 /// gives no numbers.
 pub fn open_slots()
     ensures several { slot_text 1 (Some (record { epoch = 1; first = 1; count = 3; octets = 34 })) reach.Next
@@ -72,7 +73,7 @@ pub fn open_slots()
         ≡ codes "first command 0, count 0, 0 octets" }
 {}
 
-/// The head of a map, and what is printed of a picture.
+/// The head of a map, and what is printed for a picture.
 pub fn heads()
     ensures head { map_text 178 (ending.Recovered 3) [] ≡ codes "sectors 178\nrecovered 3\n" }
     ensures picture { mapped_text 178 ≡ codes "mapped 178 sectors\n" }

@@ -12,10 +12,10 @@ use iol_record::Version;
 use std::alloc::{AllocError, Global};
 use std::fmt;
 
-// The sectors of the gate and the header of an area.
+// The number of sectors of the gate and the header of an area.
 const FRONT_SECTORS: usize = 2;
 
-// How an area stands.
+// The standing of an area.
 #[derive(Clone, Copy)]
 pub(crate) enum Standing {
     // It is in use: of the open areas it has the greatest epoch.
@@ -28,7 +28,7 @@ pub(crate) enum Standing {
     Closed,
 }
 
-// The front of an area: how it stands, and its header.
+// The front of an area: its standing, and its header.
 #[derive(Clone, Copy)]
 pub(crate) struct Front {
     pub area: Area,
@@ -36,7 +36,7 @@ pub(crate) struct Front {
     pub header: Header,
 }
 
-// The front of an area, of which the header is read where its gate is closed.
+// Returns the front of an area. Its header is read here if its gate is closed.
 pub(crate) fn read_front<D: SectorDisk>(
     disk: &mut D,
     layout: Layout,
@@ -64,7 +64,7 @@ pub(crate) fn read_front<D: SectorDisk>(
     }
 }
 
-// How an area stands whose gate is open.
+// The standing of an area whose gate is open.
 fn standing_of(area: Area, chosen: Option<InUse>) -> Standing
     ensures { result ≡ standing_of area chosen }
 {
@@ -144,7 +144,7 @@ fn gate_text(standing: Standing) -> &'static str
     }
 }
 
-// The version that a header names.
+// The words for the version that a header names.
 fn version_text(version: Option<Version>) -> &'static str
     ensures { result.now ≡ version_text version }
 {
@@ -155,7 +155,7 @@ fn version_text(version: Option<Version>) -> &'static str
     }
 }
 
-// Whether an area is in use, and why.
+// The words for whether an area is in use, and why.
 fn standing_text(standing: Standing) -> &'static str
     ensures { result.now ≡ standing_text standing }
 {

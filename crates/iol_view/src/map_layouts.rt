@@ -7,12 +7,12 @@ use iol_journal::Header;
 use iol_journal::survey::Layout;
 use iol_record::Version;
 
-// The layouts of areas of one geometry, in each version.
+// The layouts of the areas of one geometry, in each version.
 #[derive(Clone, Copy)]
 pub(crate) struct Layouts {
-    // In version 1, which sector 0 is judged by.
+    // The layout in version 1, by which sector 0 is checked.
     pub older: Layout,
-    // In version 2; in version 1 too where an area keeps no slot in version 2.
+    // The layout in version 2, or in version 1 too if an area keeps no slot in version 2.
     pub newest: Layout,
     ghost same_size: { total newest ≡ total older },
 }
@@ -22,7 +22,7 @@ impl Layouts {
     ghost use Rattle.iol_journal.specs.Geometry.{Geometry, geometry_of};
     ghost use Rattle.iol_view.specs.Map.{AreLayoutsOf, layout_in};
 
-    // The layouts of the numbers that sector 0 says, or `None` where it says none.
+    // The layouts of the numbers in sector 0, or `None` if it has no geometry.
     #[tactic(auto, using(crate::proofs::Layouts::newest_total, crate::proofs::Layouts::whole, crate::proofs::Layouts::numbers_of))]
     pub(crate) fn read(octets: &[u8; SECTOR_OCTETS]) -> Option<Layouts>
         ensures some { IfSome result (λ layouts. (g : Geometry) × (geometry_of octets.now ≡ Some g) × AreLayoutsOf g layouts) }
@@ -43,7 +43,7 @@ impl Layouts {
 
     // The layout of an area with this header.
     //
-    // One that names no version was torn by a stop as it was written, with what was then written behind it; and each header is
+    // A header that names no version was torn by a power stop while it, and what follows it, was written; and each header is
     // written in the newest version.
     pub(crate) fn of(&self, header: Header) -> Layout
         ensures version { result ≡ layout_in header.version self.now }

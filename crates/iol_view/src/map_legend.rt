@@ -1,18 +1,18 @@
-//! What the signs of a map mean: those that the map has, in one line.
+//! The legend of a map: the meanings of the signs that the map has, in one line.
 
 use crate::map_cells::{write_cells, write_frame};
 use crate::map_lines::{Cells, Gate, Line};
 use std::fmt;
 
-// Where the legend is, in units of the picture.
+// The place of the legend, in units of the picture.
 const TOP: usize = 66;
 
 const LEFT: usize = 10;
-// Where the meaning of a sign begins, after the sign.
+// The distance from the left edge of a sign to its meaning.
 const MEANING_LEFT: usize = 30;
-// How wide a letter is at most.
+// The largest width of a letter.
 const LETTER: usize = 8;
-// How far the next sign is from the end of a meaning.
+// The distance from the end of a meaning to the next sign.
 const GAP: usize = 16;
 
 // A sign of a map.
@@ -47,7 +47,7 @@ impl Sign {
         }
     }
 
-    // The cells by which it is drawn.
+    // The cells that draw the sign.
     fn cells(self) -> Cells {
         let (gate, used, unused) = match self {
             Sign::Open => (Some(Gate::Open), 0, 0),
@@ -60,7 +60,7 @@ impl Sign {
     }
 }
 
-// The signs that these lines have, one beside the other.
+// Writes the signs that these lines have, side by side.
 pub(crate) fn write_legend<W: fmt::Write>(
     f: &mut fmt::Formatter<W>,
     lines: &[Line],
@@ -82,7 +82,7 @@ pub(crate) fn write_legend<W: fmt::Write>(
     Ok(())
 }
 
-// A sign and its meaning, so far from the left.
+// Writes a sign and its meaning, at this distance from the left.
 fn write_sign<W: fmt::Write>(f: &mut fmt::Formatter<W>, left: usize, sign: Sign) -> fmt::Result {
     write!(f, "<g transform='translate({left} {TOP})'>")?;
     write_cells(f, sign.cells())?;

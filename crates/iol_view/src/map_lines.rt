@@ -1,9 +1,9 @@
-//! The lines of a map: what each is of, the sectors that it tells of, and what it says of them.
+//! The lines of a map: the part of a disk that each shows, the sectors of that part, and what the line says of them.
 ghost use Rattle.std.specs.Prelude.{◌≡◌, ◌==◌, ◌+◌, ◌-◌, ◌^◌, min};
 
 use std::alloc::{AllocError, Global};
 
-// What a line is of.
+// The part of a disk that a line shows.
 #[derive(Clone, Copy, PartialEq, Eq)]
 pub(crate) enum Part {
     // Sectors that belong to no area.
@@ -24,7 +24,7 @@ pub(crate) struct Span {
 }
 
 impl Span {
-    // One number.
+    // The span of one number.
     pub(crate) fn one(number: usize) -> Span
         ensures { result ≡ record { first = number; last = number } }
     {
@@ -34,7 +34,7 @@ impl Span {
         }
     }
 
-    // So many numbers from the first on, at least one.
+    // The span of `count` numbers from the first on, at least one.
     pub(crate) fn counted(first: usize, count: usize) -> Span
         ensures { result ≡ record { first = first; last = min (first + (count - 1)) (2 ^ 64 - 1) } }
     {
@@ -44,14 +44,14 @@ impl Span {
         }
     }
 
-    // Whether it is one number.
+    // Whether the span is one number.
     pub(crate) fn is_one(self) -> bool
         ensures { result ≡ (self.first == self.last) }
     {
         self.first == self.last
     }
 
-    // Whether this number is among them.
+    // Whether this number is in the span.
     fn has(self, number: usize) -> bool {
         self.first <= number && number <= self.last
     }
@@ -73,13 +73,13 @@ pub(crate) struct Cells {
 }
 
 impl Cells {
-    // Whether others are drawn the same.
+    // Whether the other cells are drawn the same.
     fn are_like(self, other: Cells) -> bool {
         self.gate == other.gate && self.used == other.used && self.unused == other.unused
     }
 }
 
-// A line of a map, of one part of a disk or of several that are alike.
+// A line of a map, for one part of a disk or for several that are alike.
 #[derive(Drop)]
 pub(crate) struct Line {
     pub part: Part,
@@ -88,12 +88,12 @@ pub(crate) struct Line {
     pub sectors: Span,
     pub cells: Cells,
     pub text: String,
-    // Whether a recovery ends here, since this is damaged.
+    // Whether a recovery ends here, since one of these sectors is damaged.
     pub damaged: bool,
 }
 
 impl Line {
-    // Whether a line behind this one says the same of the next part.
+    // Whether the next line says the same of the next part.
     fn is_like(&self, next: &Line) -> bool {
         self.part == next.part
             && self.cells.are_like(next.cells)
@@ -102,7 +102,7 @@ impl Line {
             && self.text.as_str() == next.text.as_str()
     }
 
-    // Makes it the line of these parts and of those of the next line.
+    // Extends this line to the parts of the next line.
     fn take_in(&mut self, next: &Line) {
         self.numbers.last = next.numbers.last;
         self.sectors.last = next.sectors.last;
@@ -125,7 +125,7 @@ impl Lines {
         }
     }
 
-    // Adds a line, or makes it one with the line before, where that says the same.
+    // Adds a line, or joins it to the line before if that says the same.
     pub(crate) fn add(&mut self, line: Line) -> Result<(), AllocError> {
         let mut line = line;
         line.damaged = self.has_damage(line.sectors);

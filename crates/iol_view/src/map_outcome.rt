@@ -1,4 +1,4 @@
-//! What a recovery of a disk comes to.
+//! The outcome of a recovery of a disk.
 ghost use Rattle.std.specs.Prelude.{◌≡◌, IfOk, IfErr};
 ghost use Rattle.iol_disk.specs.Content.{IsImage};
 ghost use Rattle.iol_disk.specs.Moments.{LeavesOnly};
@@ -9,10 +9,10 @@ use iol_commands::{Fault, Shown, show_disk};
 use iol_disk::SectorDisk;
 use std::alloc::Global;
 
-// What a recovery of a disk comes to.
+// The outcome of a recovery of a disk.
 #[derive(Clone, Copy)]
 pub(crate) enum Outcome {
-    // The state after so many commands.
+    // The state after `number` commands.
     Recovered { number: u64 },
     // The disk is not formatted.
     NotFormatted,
@@ -34,17 +34,17 @@ impl Outcome {
     }
 }
 
-// What a recovery of a disk comes to, and the disk behind it.
+// The outcome of a recovery of a disk, and the disk after it.
 #[derive(Drop)]
 pub(crate) struct Looked<D: SectorDisk> {
     pub outcome: Result<Outcome, Fault<'static>>,
     pub disk: D,
 }
 
-// Recovers a disk. Where that fails for the disk or for memory, `Disk` or `Memory` says so.
+// Recovers a disk. If a disk call fails or memory runs out, it reports `Disk` or `Memory`.
 pub(crate) fn look<D: SectorDisk>(alloc: Global, disk: D) -> Looked<D>
     ensures told { IfOk result.outcome (TellsOutcome (D.disk disk)) }
-    // It leaves only what was there: each image is one of those before.
+    // Nothing is written: each image is one that was possible before.
     ensures any_moment { LeavesOnly (D.disk disk) (D.disk result.disk) (IsImage (D.disk disk).content) }
     ensures cause { IfErr result.outcome IsMapCause }
     ensures status { IfErr result.outcome (λ fault. status_of fault ≡ 1) }

@@ -59,7 +59,7 @@ fn add_port<D: SectorDisk>(
     }
 }
 
-// The port that was read, or none where its sectors hold no record.
+// The port that was read, or `None` if its sectors hold no record.
 fn found(read: Result<PortState, RecoverCause>) -> Result<Option<PortState>, RecoverCause>
     ensures { result ≡ record_in read }
 {
@@ -70,7 +70,7 @@ fn found(read: Result<PortState, RecoverCause>) -> Result<Option<PortState>, Rec
     }
 }
 
-// Where the record of a port stands, how many sectors it may have, and how many of them were read.
+// The record of a port: its sectors, the number of sectors that it may have, and the number of them that were read.
 #[derive(Clone, Copy)]
 struct Record {
     number: usize,
@@ -96,7 +96,7 @@ fn port_line(alloc: Global, record: Record, port: Option<PortState>) -> Result<L
     })
 }
 
-// What a record says.
+// The text of a record.
 #[derive(Drop)]
 struct RecordText {
     record: Record,
@@ -125,7 +125,7 @@ impl fmt::Display for RecordText {
     }
 }
 
-// A configuration, each number behind its name, and its label, if it has one.
+// The text of a configuration: each number after its name, and the label, if it has one.
 #[derive(Drop)]
 struct ConfigText(PortConfig);
 
@@ -145,7 +145,7 @@ impl fmt::Display for ConfigText {
     }
 }
 
-// What is said of a parameter set of a port.
+// The text of a parameter set of a port.
 #[derive(Drop)]
 struct SetText<'a>(Option<&'a StoredSet>);
 

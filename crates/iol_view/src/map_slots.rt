@@ -14,18 +14,18 @@ use iol_journal::{Head, LAST_NUMBER, RecoverCause};
 use std::alloc::{AllocError, Global};
 use std::fmt;
 
-// How far a recovery comes in the slots of an area.
+// How far a recovery gets in the slots of an area.
 #[derive(Clone, Copy)]
 pub(crate) enum Reach {
     // To this slot: the area is in use, and the gates of the slots before it are open.
     Next,
     // Not to this slot, as a gate before it is closed.
     Behind,
-    // To none, as the area is not in use.
+    // To no slot, as the area is not in use.
     Idle,
 }
 
-// Adds a line for each slot of an area; the slots of a batch have one.
+// Adds a line for each slot of an area. The slots of a batch have one line together.
 pub(crate) fn add_slots<D: SectorDisk>(
     alloc: Global,
     disk: &mut D,
@@ -49,8 +49,8 @@ pub(crate) fn add_slots<D: SectorDisk>(
     Ok(())
 }
 
-// How many slots the batch takes that begins in one, of so many that are left: one where its gate is closed, or where its
-// head tells of more than are left.
+// The number of slots of the batch that begins at a slot, with `left` slots left: 1 if the gate of the slot is closed, or if its
+// head reports more than are left.
 fn span_of(head: Option<Head>, left: usize) -> usize
     requires { 1 ≤ left }
     ensures { (1 ≤ result) × (result ≤ left) }
@@ -61,7 +61,7 @@ fn span_of(head: Option<Head>, left: usize) -> usize
     }
 }
 
-// How far a recovery comes at the first slot of an area.
+// How far a recovery gets at the first slot of an area.
 fn first_reach(standing: Standing) -> Reach
     ensures { result ≡ first_reach standing }
 {
@@ -71,7 +71,7 @@ fn first_reach(standing: Standing) -> Reach
     }
 }
 
-// How far it comes at the next slot.
+// How far a recovery gets at the next slot.
 fn next_reach(reach: Reach, head: Option<Head>) -> Reach
     ensures { result ≡ next_reach reach head }
 {
@@ -83,7 +83,7 @@ fn next_reach(reach: Reach, head: Option<Head>) -> Reach
     }
 }
 
-// The line of a slot, or of those of a batch, of an area of this epoch.
+// The line of a slot, or of the slots of a batch, in an area of this epoch.
 fn slot_line(
     alloc: Global,
     epoch: u64,
@@ -110,13 +110,13 @@ fn slot_line(
     })
 }
 
-// How many sectors slots have, with their gates.
+// The number of sectors of these slots, with their gates.
 fn slot_sectors(numbers: Span) -> usize {
     let slots = numbers.last.saturating_sub(numbers.first).saturating_add(1);
     slots.saturating_mul(1 + BODY_SECTORS)
 }
 
-// How many sectors of the first body of a batch are used, as far as its head is to be believed.
+// The number of sectors of the first body of a batch that are used, by its head, which may be damaged.
 fn body_sectors(head: Option<Head>) -> usize {
     match head {
         Some(head) => head.sectors().min(BODY_SECTORS),
@@ -131,7 +131,7 @@ fn gate_of(head: Option<Head>) -> Gate {
     }
 }
 
-// What is said of a slot.
+// The text of a slot.
 #[derive(Clone, Copy)]
 struct SlotText {
     epoch: u64,
@@ -159,7 +159,7 @@ impl fmt::Display for SlotText {
     }
 }
 
-// What the head of a body tells, in an area of this epoch.
+// Writes what the head of a body says, in an area of this epoch.
 fn write_head<W: fmt::Write>(f: &mut fmt::Formatter<W>, epoch: u64, head: Head) -> fmt::Result
     ensures { WritesOnOk W.write_str_gives f.old result (head_text epoch head) f.new }
 {
@@ -169,7 +169,7 @@ fn write_head<W: fmt::Write>(f: &mut fmt::Formatter<W>, epoch: u64, head: Head) 
     write_epoch(f, epoch, head)
 }
 
-// The commands that a head tells of.
+// Writes the commands that a head reports.
 fn write_commands<W: fmt::Write>(f: &mut fmt::Formatter<W>, head: Head) -> fmt::Result
     ensures { WritesOnOk W.write_str_gives f.old result (commands_text head) f.new }
 {
@@ -187,14 +187,14 @@ fn write_commands<W: fmt::Write>(f: &mut fmt::Formatter<W>, head: Head) -> fmt::
     }
 }
 
-// Whether a head gives numbers to commands.
+// Whether a head gives numbers to its commands.
 fn has_numbers(head: Head) -> bool
     ensures { result ≡ has_numbers head }
 {
     1 <= head.count && head.first <= LAST_NUMBER
 }
 
-// Another epoch than that of the area.
+// Writes the epoch of a head, if it is not that of the area.
 fn write_epoch<W: fmt::Write>(f: &mut fmt::Formatter<W>, epoch: u64, head: Head) -> fmt::Result
     ensures { WritesOnOk W.write_str_gives f.old result (epoch_text epoch head) f.new }
 {

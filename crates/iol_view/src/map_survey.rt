@@ -1,4 +1,4 @@
-//! The lines of a map, read off a disk part by part. None of it writes to the disk.
+//! Reads the lines of a map off a disk, part by part. Nothing is written to the disk.
 ghost use Rattle.std.specs.Prelude.{◌≡◌, ◌≤◌, IfOk};
 ghost use Rattle.iol_disk.specs.Disk.{Same};
 
@@ -11,10 +11,10 @@ use iol_journal::survey::{DISK_GATE, GEOMETRY, is_formatted, read_sector};
 use std::alloc::{AllocError, Global};
 use std::fmt;
 
-// How many octets say a geometry.
+// The number of octets of a geometry.
 const GEOMETRY_OCTETS: usize = 10;
 
-// The lines of a disk, of which a recovery finds this sector damaged, if it finds one.
+// Returns the lines of a disk. `damaged` is the sector that a recovery finds damaged, if it finds one.
 pub(crate) fn lines_of<D: SectorDisk>(
     alloc: Global,
     disk: &mut D,
@@ -30,7 +30,7 @@ pub(crate) fn lines_of<D: SectorDisk>(
     Ok(lines.lines)
 }
 
-// Adds the line of the geometry's sector, where that is there, and tells the layouts of what it says.
+// Adds the line of the geometry's sector, if the disk has that sector, and returns the layouts of the geometry.
 fn add_geometry<D: SectorDisk>(
     alloc: Global,
     disk: &mut D,
@@ -49,7 +49,7 @@ fn add_geometry<D: SectorDisk>(
     Ok(layouts)
 }
 
-// Adds the line of the gate of the disk, where that is there.
+// Adds the line of the gate of the disk, if the disk has that sector.
 fn add_disk_gate<D: SectorDisk>(
     alloc: Global,
     disk: &mut D,
@@ -74,8 +74,8 @@ fn disk_gate_text(gate: Gate) -> &'static str {
     }
 }
 
-// Adds the lines of the areas, where the disk has the sectors that the geometry takes, and tells the first sector behind
-// what has its lines.
+// Adds the lines of the areas, if the disk has the sectors that the geometry takes, and returns the first sector after those
+// that have lines.
 fn add_journal<D: SectorDisk>(
     alloc: Global,
     disk: &mut D,
@@ -94,7 +94,7 @@ fn add_journal<D: SectorDisk>(
     }
 }
 
-// Adds the line of the sectors behind what has its lines, where there are any.
+// Adds the line of the sectors after those that have lines, if there are any.
 fn add_rest(
     alloc: Global,
     sectors: usize,
@@ -120,7 +120,7 @@ fn add_rest(
     Ok(())
 }
 
-// The line of one sector that belongs to no area, which is this gate or is used.
+// The line of one sector that belongs to no area. The sector is drawn as this gate, or as used if `gate` is `None`.
 fn alone(sector: usize, gate: Option<Gate>, text: String) -> Line {
     let used = match gate {
         Some(_) => 0,
@@ -140,7 +140,7 @@ fn alone(sector: usize, gate: Option<Gate>, text: String) -> Line {
     }
 }
 
-// What is said of the geometry's sector, on a disk of so many sectors.
+// The text of the geometry's sector, on a disk of `there` sectors.
 fn geometry_text(
     alloc: Global,
     octets: &[u8; SECTOR_OCTETS],
@@ -160,7 +160,7 @@ fn geometry_text(
     format!(in alloc; "geometry, ports {ports}, slots {slots}, sectors {sectors}{lack}")
 }
 
-// Octets that say no geometry.
+// The text of octets that are no geometry.
 #[derive(Drop)]
 struct Octets<'a>(&'a [u8]);
 

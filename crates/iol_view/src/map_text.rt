@@ -7,7 +7,7 @@ use crate::map_lines::{Line, Part, Span};
 use crate::map_outcome::Outcome;
 use std::fmt;
 
-// A map of a disk: how many sectors it has, what a recovery of it comes to, and its lines.
+// A map of a disk: the number of its sectors, the outcome of its recovery, and its lines.
 #[derive(Drop)]
 pub(crate) struct Map {
     pub sectors: usize,
@@ -28,7 +28,7 @@ impl fmt::Display for Map {
     }
 }
 
-// Lines, each with its end.
+// Writes lines, each with its line feed.
 fn write_lines<W: fmt::Write>(f: &mut fmt::Formatter<W>, lines: &[Line]) -> fmt::Result
     ensures { WritesOnOk W.write_str_gives f.old result (lines_text lines.now) f.new }
 {
@@ -56,7 +56,7 @@ impl fmt::Display for Outcome {
     }
 }
 
-// The line without its end.
+// The line without its line feed.
 impl fmt::Display for Line {
     ghost use Rattle.std.specs.Prelude.{Some};
     ghost use Rattle.iol_view.specs.Map.{line_text};
@@ -71,7 +71,7 @@ impl fmt::Display for Line {
     }
 }
 
-// What a line is of, and its sectors.
+// Writes the part of a disk that a line shows, and its sectors.
 pub(crate) fn write_front<W: fmt::Write>(f: &mut fmt::Formatter<W>, line: &Line) -> fmt::Result
     ensures { WritesOnOk W.write_str_gives f.old result (front_text line.now) f.new }
 {
@@ -86,7 +86,7 @@ pub(crate) fn write_front<W: fmt::Write>(f: &mut fmt::Formatter<W>, line: &Line)
     write!(f, "{part}{sectors}: ")
 }
 
-// What stands behind the line of the sectors at which a recovery ends.
+// The end of a line, which has words if a recovery ends at its sectors.
 pub(crate) fn damage_text(damaged: bool) -> &'static str
     ensures { result.now ≡ damage_text damaged }
 {
@@ -97,7 +97,7 @@ pub(crate) fn damage_text(damaged: bool) -> &'static str
     }
 }
 
-// What a line is of, in front of its sectors.
+// The part of a disk that a line shows, as it is written before the sectors.
 #[derive(Clone, Copy)]
 struct PartText {
     part: Part,

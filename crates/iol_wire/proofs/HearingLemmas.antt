@@ -18,7 +18,7 @@ use Rattle.iol_wire.specs.Transport.{TransportCall, Received, Run}
 use Rattle.iol_wire.proofs.RunLemmas.{run_join}
 
 module _ (number : ℕ) (start : Position) where
-  -- the rest of a line alone
+  -- only the rest of a line
   pub passing_none : (dropped : List ℕ) → IsRest start dropped → Passing number start dropped []
   passing_none dropped rest = record {
     dropped = dropped;
@@ -34,7 +34,7 @@ module _ (number : ℕ) (start : Position) where
   unfolding passing_none
   no_lines dropped rest = refl
 
-  -- one line more
+  -- one more line
   pub passing_more : (heard codes line : List ℕ) → Passing number start heard codes → IsWhole line → Passes number (meaning line)
       → Passing number start (heard ++ ended line) (codes ++ codes_in (line ∷ []))
   passing_more heard codes line passing whole passes =
@@ -62,7 +62,7 @@ module _ (number : ℕ) (start : Position) where
   unfolding passing_more
   more_lines heard codes line passing whole passes = length-append passing.lines (line ∷ [])
 
--- events for which there is a place, and then others
+-- events that all fit, and then others
 join_fits : (events early late : List ℕ) → length early ≤ KEPT_EVENTS - length events
     → kept (kept events early) late ≡ kept events (early ++ late)
 join_fits events early late fits =
@@ -74,7 +74,7 @@ join_fits events early late fits =
     ap (λ (count : ℕ). take count (early ++ late)) places ∙ take-append-add early late rest in
     rw all (rw left (rw both (append_assoc events early (take rest late))))
 
--- events of which some have no place, and then others
+-- events that do not all fit, and then others
 join_full : (events early late : List ℕ) → KEPT_EVENTS - length events ≤ length early
     → kept (kept events early) late ≡ kept events (early ++ late)
 join_full events early late full =
@@ -85,7 +85,7 @@ join_full events early late full =
     let first : take places (early ++ late) ≡ take places early = take-append-le places early late full in
     rw none (rw first (append-nil (events ++ take places early)))
 
--- events that come after others
+-- events after others
 pub kept_join : (events early late : List ℕ) → kept (kept events early) late ≡ kept events (early ++ late)
 kept_join events early late =
     elim (cases_lt (KEPT_EVENTS - length events) (length early)) [
@@ -96,7 +96,7 @@ kept_join events early late =
 pub kept_none : (events : List ℕ) → events ≡ kept events []
 kept_none events = sym (rw take-nil (append-nil events))
 
--- a run that receives these octets, and those
+-- a run that receives these octets, and then those
 pub run_received : {T : Type 0} (moves : T → TransportCall → T → Type 0) (old middle new : T) (early late : List ℕ)
     → Run moves old (received early) middle → Run moves middle (received late) new → Run moves old (received (early ++ late)) new
 run_received moves old middle new early late first second =
@@ -119,7 +119,7 @@ module _ {T : Type 0} (moves : T → TransportCall → T → Type 0) (old middle
       ∙ append_assoc (received heard) (received part) ending in
       rw calls (run_join moves old middle new (received heard) (received part ++ ending) first second)
 
-  -- a run that receives lines, and no more
+  -- a run that receives lines, and then nothing more
   pub run_no_part : (heard : List ℕ) → Run moves old (received heard) new → Run moves old (received (heard ++ []) ++ []) new
   run_no_part heard first =
       let calls : received (heard ++ []) ++ [] ≡ received heard =

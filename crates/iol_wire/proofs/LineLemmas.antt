@@ -1,4 +1,4 @@
--- Octets that words write.
+-- The octets that words spell.
 use Rattle.std.proofs.Common.{◌≡◌, ◌≢◌, ℕ, ◌≤◌, ◌==◌, ◌&&◌, Bool, true, cond, leb, List, [], ◌∷◌, ◌++◌, Option, Some, None, length}
 use Rattle.std.proofs.Common.{filter_map, is_some, suc, ap, ◌∙◌, refl, arith}
 use Rattle.std.specs.List.{list_all, cons_option}
@@ -18,7 +18,7 @@ done_by : (all few : Bool) (octets : List ℕ) → all ≡ true → few ≡ true
     → Some octets ≡ cond few (cond all (Some octets) None) None
 done_by all few octets is_all is_few = simp (is_all, is_few)
 
--- words that all write an octet, and the octets of no other words before
+-- if each word spells an octet, these are the octets, in order
 pub octets_done : (most : ℕ) (written : List (List ℕ)) (octets : List ℕ) → list_all is_octet written ≡ true
     → filter_map (hexadecimal 2) written ≡ octets ++ [] → length written ≤ most
     → Some octets ≡ octets_within most written
@@ -33,7 +33,7 @@ count_more : (octet : Option ℕ) (octets : List ℕ) (more : List (List ℕ)) �
 count_more None octets more all counted = absurd (false≢true all)
 count_more (Some octet) octets more all counted = ap suc (counted all)
 
--- as many octets as words
+-- there are as many octets as words
 pub octets_count : (written : List (List ℕ)) → list_all is_octet written ≡ true
     → length (filter_map (hexadecimal 2) written) ≡ length written
 octets_count [] all = refl
@@ -57,7 +57,7 @@ no_page_by : (all : Bool) (count : ℕ) (written octets : List ℕ) → (all ≡
     → None ≡ cond (count == 16) (option_map Page (cond all (Some written) None)) None
 no_page_by all count written octets counted found other = grind (arith, nat_tests)
 
--- any other count is none
+-- any other number of octets is no page
 pub page_missing : (written : List (List ℕ)) (octets : List ℕ) → Some octets ≡ octets_within PAGE_OCTETS written
     → length octets ≢ PAGE_OCTETS → None ≡ page_of written
 page_missing written octets found other =

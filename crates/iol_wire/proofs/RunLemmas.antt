@@ -1,4 +1,4 @@
--- Runs of a transport's calls, and the octets that they receive.
+-- Runs of the calls of a transport, and the octets that they receive.
 use Rattle.std.proofs.Common.{◌≡◌, ◌≢◌, ◌+◌, ◌≤◌, ◌==◌, true, false, ℕ, List, [], ◌∷◌, ◌++◌, length, refl, sym, subst, arith}
 use Rattle.std.proofs.lemmas.Bool.Decides.{nat_tests}
 use Rattle.std.proofs.lemmas.List.{map-append, length-append}
@@ -9,7 +9,7 @@ use Rattle.iol_wire.specs.Hearing.{HasNoFeed, ended, position_after, received}
 use Rattle.iol_wire.specs.Transport.{TransportCall, Received, Run}
 
 module _ {T : Type 0} (moves : T → TransportCall → T → Type 0) where
-  -- one run after another is one run
+  -- one run after another is a run
   pub run_join : (old middle new : T) (early late : List TransportCall) → Run moves old early middle → Run moves middle late new
       → Run moves old (early ++ late) new
   run_join old middle new [] late first second = subst (λ (from : T). Run moves from late new) (sym first) second
@@ -20,13 +20,13 @@ module _ {T : Type 0} (moves : T → TransportCall → T → Type 0) where
   pub run_one : (old new : T) (call : TransportCall) → moves old call new → Run moves old (call ∷ []) new
   run_one old new call move = (new, move, refl)
 
-  -- a run, and one call more
+  -- a run, and one more call
   pub run_more : (old middle new : T) (calls : List TransportCall) (call : TransportCall) → Run moves old calls middle
       → moves middle call new → Run moves old (calls ++ call ∷ []) new
   run_more old middle new calls call first move =
       run_join old middle new calls (call ∷ []) first (run_one middle new call move)
 
-  -- a run, and one octet more
+  -- a run, and one more octet
   pub run_receive : (old middle new : T) (octets : List ℕ) (octet : ℕ) → Run moves old (received octets) middle
       → moves middle (Received octet) new → Run moves old (received (octets ++ octet ∷ [])) new
   run_receive old middle new octets octet first move =
@@ -46,7 +46,7 @@ no_feed_more octets octet none other = All-push (λ (one : ℕ). one ≢ LINE_FE
 pub one_longer : (octets : List ℕ) (octet : ℕ) → length (octets ++ octet ∷ []) ≡ length octets + 1
 one_longer octets octet = length-append octets (octet ∷ [])
 
--- after an octet a line has begun
+-- after an octet, the position is within a line
 pub within_line : (octets : List ℕ) (octet : ℕ) → WithinLine ≡ position_after (octets ++ octet ∷ [])
 within_line [] octet = refl
 within_line (first ∷ more) octet = refl

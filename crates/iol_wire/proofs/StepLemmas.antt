@@ -1,4 +1,4 @@
--- How a call of a link ends.
+-- The ends of a call of a link.
 use Rattle.std.proofs.Common.{◌≡◌, ◌≢◌, ℕ, List, Some, None, Option, refl, sym, subst, inr}
 use Rattle.iol_link.specs.Link.{Octets, Gone, last_connection}
 use Rattle.iol_wire.specs.declared.line.Reply.{Reply}
@@ -17,7 +17,7 @@ concludes_none asked reply wire new none gone = rw none (refl, gone)
 
 module _ {T : Type 0} (moves : T → TransportCall → T → Type 0) (old middle new : WireLink T) (asked : Asked)
     (calls : List TransportCall) (reply : Option Reply) where
-  -- the request was asked, and is answered with octets
+  -- the request was sent, and is answered with octets
   pub step_octets : (octets : List ℕ) → old.connection ≢ last_connection
       → Run moves (transport_of old) calls (transport_of new) → AskStep (wire_of old) asked calls reply (wire_of new)
       → octets_of asked reply ≡ Some octets
@@ -26,7 +26,7 @@ module _ {T : Type 0} (moves : T → TransportCall → T → Type 0) (old middle
   step_octets octets more run step found =
       (calls, run, inr (more, (reply, wire_of new, step, concludes_some asked reply (wire_of new) octets found)))
 
-  -- the request was asked, and the device is lost
+  -- the request was sent, and the device is lost
   pub step_lost : old.connection ≢ last_connection
       → Run moves (transport_of old) calls (transport_of middle) → AskStep (wire_of old) asked calls reply (wire_of middle)
       → octets_of asked reply ≡ None → wire_of new ≡ lost (wire_of middle) → transport_of new ≡ transport_of middle

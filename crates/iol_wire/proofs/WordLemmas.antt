@@ -1,4 +1,4 @@
--- The words of octets, from the first on.
+-- The words of octets, from the first one on.
 use Rattle.std.proofs.Common.{◌≡◌, ◌≢◌, ℕ, ◌<◌, ◌≤◌, Bool, true, false, ltb, List, [], ◌∷◌, Some, None, get_or, length, take, drop, ◌+◌}
 use Rattle.std.proofs.Common.{◌-◌, position, ap, ◌∙◌, arith}
 use Rattle.std.specs.List.{slice_split, position_or_len, before_first, after_first, filter, All}
@@ -22,7 +22,7 @@ keeps : (word : List ℕ) (parts : List (List ℕ)) → 0 < length word
     → filter has_octet (word ∷ parts) ≡ word ∷ filter has_octet parts
 keeps word parts some = grind (arith, nat_tests)
 
--- the place of the first that passes a test
+-- the place of the first octet that passes a test
 first_place : (test : ℕ → Bool) (octets : List ℕ) (place : ℕ) → Some place ≡ position test octets
     → (position_or_len test octets ≡ place) × (place < length octets)
 first_place test octets place found = grind (arith, nat_tests)
@@ -31,12 +31,12 @@ no_place : (test : ℕ → Bool) (octets : List ℕ) → None ≡ position test 
     → length octets ≤ position_or_len test octets
 no_place test octets none = grind (arith, nat_tests)
 
--- octets that begin with no blank have no blank at their first place
+-- if octets do not begin with a blank, their first blank is at a later place
 begins_later : (octets : List ℕ) → 0 < length octets → get_or octets 0 0 ≢ BLANK → 0 < position_or_len is_blank octets
 begins_later [] some begins = absurd (omega arith)
 begins_later (octet ∷ more) some begins = grind (arith, nat_tests)
 
--- what is before the first blank is the first word
+-- the octets before the first blank are the first word
 pub words_cut : (octets : List ℕ) (place : ℕ) → Some place ≡ position is_blank octets
     → 0 < length octets → get_or octets 0 0 ≢ BLANK
     → words octets ≡ before_first is_blank octets ∷ words (after_first is_blank octets)
@@ -47,7 +47,7 @@ words_cut octets place found some begins =
     ap (filter has_octet) (slice_split_first is_blank octets 0 found_within)
     ∙ keeps (before_first is_blank octets) (slice_split is_blank (after_first is_blank octets)) (simp length-take (omega arith))
 
--- the same, in the words of a cut
+-- the same, for the words of a cut
 pub words_cut_at : (octets : List ℕ) (place : ℕ) → Some place ≡ position is_blank octets
     → 0 < length octets → get_or octets 0 0 ≢ BLANK
     → words octets ≡ take place octets ∷ words (take (length octets - (place + 1)) (drop (place + 1) octets))

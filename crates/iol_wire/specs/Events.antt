@@ -2,6 +2,6 @@
 use Rattle.std.specs.Prelude.{ℕ, ◌-◌, List, ◌++◌, length, take}
 use Rattle.iol_wire.specs.declared.events.TheConstants.{KEPT_EVENTS}
 
--- the events that are kept once these came too, oldest first: at most 16, and the further ones are dropped (format, Lines of a driver)
+-- the kept events after these came too, oldest first: at most 16, and further ones are dropped (format, Lines of a driver)
 abbrev pub kept : List ℕ → List ℕ → List ℕ
 kept events codes = events ++ take (KEPT_EVENTS - length events) codes

@@ -1,4 +1,4 @@
--- Lines that a link hears after a request.
+-- The lines that a link receives after a request.
 use Rattle.std.specs.Prelude.{◌≡◌, ◌≢◌, ◌+◌, ◌-◌, ◌^◌, ◌<◌, ◌≤◌, ◌⊎◌, ℕ, List, [], ◌∷◌, ◌++◌, length, map, flat_map, filter_map, All}
 use Rattle.std.specs.Prelude.{Option, Some, None}
 use Rattle.iol_wire.specs.declared.line.Line.{Line}
@@ -11,13 +11,13 @@ use Rattle.iol_wire.specs.declared.writing.TheConstants.{LINE_FEED}
 use Rattle.iol_wire.specs.Lines.{meaning}
 use Rattle.iol_wire.specs.Transport.{TransportCall, Stayed, Opened, Received, Unheard}
 
--- where the octets after a call of `connect` begin (own)
+-- the position of the next octets after a call of `connect` (own)
 abbrev pub Connects : Position → TransportCall → Position → Type 0
 Connects old Stayed new = new ≡ old
 Connects old (Opened position) new = new ≡ position
 Connects _ _ _ = ⊥
 
--- octets within one line (format, Lines of a driver)
+-- these octets contain no line feed, so they are within one line (format, Lines of a driver)
 abbrev pub HasNoFeed : List ℕ → Type 0
 HasNoFeed octets = All (λ octet. octet ≢ LINE_FEED) octets
 
@@ -29,12 +29,13 @@ ended line = line ++ LINE_FEED ∷ []
 abbrev pub IsWhole : List ℕ → Type 0
 IsWhole line = HasNoFeed line × (length line ≤ LINE_OCTETS)
 
--- what is dropped before the next line: nothing at a line's start, else the rest of the line (format, Lines of a driver)
+-- the octets that are dropped before the next line: none at the start of a line, else the rest of the line
+-- (format, Lines of a driver)
 abbrev pub IsRest : Position → List ℕ → Type 0
 IsRest LineStart dropped = dropped ≡ []
 IsRest WithinLine dropped = (rest : List ℕ) × HasNoFeed rest × (dropped ≡ ended rest)
 
--- where the next octets begin, after this part of a line (own)
+-- the position of the next octets after this part of a line (own)
 abbrev pub position_after : List ℕ → Position
 position_after [] = LineStart
 position_after (_ ∷ _) = WithinLine
@@ -45,28 +46,28 @@ Passes number (Event _) = Unit {0}
 Passes number (Answer earlier _) = earlier < number
 Passes number Malformed = ⊥
 
--- a line at which the device is lost: a malformed one, or the answer to a later request (format, Lines of a driver)
+-- a line that loses the device: a malformed one, or the answer to a later request (format, Lines of a driver)
 abbrev pub Fails : ℕ → Line → Type 0
 Fails number (Event _) = ⊥
 Fails number (Answer later _) = number < later
 Fails number Malformed = Unit {0}
 
--- the code of an event (own)
+-- the code of an event, if the line is one (own)
 abbrev pub code_of : Line → Option ℕ
 code_of (Event code) = Some code
 code_of (Answer _ _) = None
 code_of Malformed = None
 
--- the codes of the events among lines, in their order (own)
+-- the codes of the events among these lines, in order (own)
 abbrev pub codes_in : List (List ℕ) → List ℕ
 codes_in lines = filter_map (λ line. code_of (meaning line)) lines
 
--- octets that are received one by one (own)
+-- the calls that receive these octets one by one (own)
 abbrev pub received : List ℕ → List TransportCall
 received octets = map Received octets
 
--- what is received before the line that decides: the rest of a line, then whole lines that are passed over, with the codes of
--- their events (own)
+-- the octets received before the line that decides: the rest of a line, then whole lines that are passed over, with the codes
+-- of their events (own)
 pub record Passing (number : ℕ) (start : Position) (heard codes : List ℕ) : Type 0 where
   pub dropped : List ℕ
   pub lines : List (List ℕ)
@@ -76,7 +77,7 @@ pub record Passing (number : ℕ) (start : Position) (heard codes : List ℕ) : 
   pub passed : All (λ line. Passes number (meaning line)) lines
   pub in_order : codes ≡ codes_in lines
 
--- a whole line with this meaning, after others that are passed over (own)
+-- a whole line with this meaning, after lines that are passed over (own)
 pub record Decides (number : ℕ) (start : Position) (Means : Line → Type 0) (calls : List TransportCall) (codes : List ℕ)
     (end : Position) : Type 0 where
   pub heard : List ℕ
@@ -87,13 +88,13 @@ pub record Decides (number : ℕ) (start : Position) (Means : Line → Type 0) (
   pub calls_are : calls ≡ received (heard ++ ended line)
   pub at_start : end ≡ LineStart
 
--- how the octets of a line come to no end: none comes, or there are 801 (format, Lines of a driver)
+-- how a line fails to end: no octet comes, or there are 801 (format, Lines of a driver)
 abbrev pub BreaksLine : List ℕ → List TransportCall → Position → Type 0
 BreaksLine part ending end =
     HasNoFeed part × (end ≡ position_after part)
     × (((ending ≡ Unheard ∷ []) × (length part ≤ LINE_OCTETS)) ⊎ ((ending ≡ []) × (length part ≡ LINE_OCTETS + 1)))
 
--- the rest of a line comes to no end (own)
+-- the rest of a line does not end (own)
 pub record SkipsRest (start : Position) (calls : List TransportCall) (end : Position) : Type 0 where
   pub dropped : List ℕ
   pub ending : List TransportCall
@@ -102,7 +103,7 @@ pub record SkipsRest (start : Position) (calls : List TransportCall) (end : Posi
   pub calls_are : calls ≡ received dropped ++ ending
   pub within : (start ≡ WithinLine) × (end ≡ WithinLine)
 
--- a line that comes to no end, after others that are passed over; or so many lines that no more is read (own)
+-- a line that does not end, after lines that are passed over; or the largest number of lines was read (own)
 pub record Ceases (number : ℕ) (start : Position) (calls : List TransportCall) (codes : List ℕ) (end : Position) : Type 0 where
   pub heard : List ℕ
   pub part : List ℕ
@@ -112,7 +113,7 @@ pub record Ceases (number : ℕ) (start : Position) (calls : List TransportCall)
       ⊎ ((ending ≡ []) × (part ≡ []) × (length passing.lines ≡ 2 ^ 64 - 1) × (end ≡ LineStart))
   pub calls_are : calls ≡ received (heard ++ part) ++ ending
 
--- what a link hears after the request with this number: its answer, or none (own)
+-- what a link receives after the request with this number: its answer, or no answer (own)
 abbrev pub Hears : ℕ → Position → List TransportCall → Option Reply → List ℕ → Position → Type 0
 Hears number start calls (Some reply) codes end = Decides number start (λ line. line ≡ Answer number reply) calls codes end
 Hears number start calls None codes end =

@@ -1,4 +1,4 @@
--- What a line of a driver means.
+-- The meaning of a line of a driver.
 use Rattle.std.specs.Prelude.{ℕ, ◌==◌, nat_le, if◌then◌else◌, List, [], ◌∷◌, length, filter_map, codes}
 use Rattle.std.specs.Prelude.{Option, Some, None, is_some, slice_get, take, ◌-◌, false}
 use Rattle.std.specs.Option.{option_map, option_map_or}
@@ -15,35 +15,35 @@ use Rattle.iol_wire.specs.declared.reading.TheConstants.{CARRIAGE_RETURN}
 use Rattle.iol_wire.specs.Words.{words}
 use Rattle.iol_wire.specs.Numeral.{numeral, hexadecimal}
 
--- octets without a carriage return at their end (format, Lines of a driver)
+-- these octets without a carriage return at their end (format, Lines of a driver)
 abbrev pub without_return : List ℕ → List ℕ
 without_return line =
     if option_map_or (λ last. last == CARRIAGE_RETURN) (slice_get line (length line - 1)) false
     then take (length line - 1) line else line
 
--- the octets that words write, each with two hexadecimal digits (format, Lines of a driver)
+-- the octets that words spell, each with two hexadecimal digits (format, Lines of a driver)
 abbrev pub octets_in : List (List ℕ) → Option (List ℕ)
 octets_in written =
     if list_all (λ word. is_some (hexadecimal 2 word)) written then Some (filter_map (hexadecimal 2) written) else None
 
--- those octets, if they are at most so many (format, Lines of a driver)
+-- the octets that words spell, if they are at most `most` (format, Lines of a driver)
 abbrev pub octets_within : ℕ → List (List ℕ) → Option (List ℕ)
 octets_within most written = if nat_le (length written) most then octets_in written else None
 
--- the page that words write: 16 octets (format, Lines of a driver)
+-- the page that words spell: 16 octets (format, Lines of a driver)
 abbrev pub page_of : List (List ℕ) → Option Reply
 page_of written = if length written == PAGE_OCTETS then option_map Page (octets_in written) else None
 
--- the answer of an ISDU that words write: 0 to 238 octets (format, Lines of a driver)
+-- the answer to an ISDU request that words spell: 0 to 238 octets (format, Lines of a driver)
 abbrev pub isdu_of : List (List ℕ) → Option Reply
 isdu_of written = option_map (λ octets. Isdu (record { items = octets })) (octets_within ISDU_OCTETS written)
 
--- a loss has no more words (format, Lines of a driver)
+-- a loss has no further words (format, Lines of a driver)
 abbrev pub lost_of : List (List ℕ) → Option Reply
 lost_of [] = Some Lost
 lost_of (_ ∷ _) = None
 
--- what an answer of this kind says with these words after it (format, Lines of a driver)
+-- the reply of this kind with these words after it (format, Lines of a driver)
 abbrev pub reply_of : List ℕ → List (List ℕ) → Option Reply
 reply_of kind written =
     if bytes_eq kind (codes "page") then page_of written
@@ -51,18 +51,18 @@ reply_of kind written =
     else if bytes_eq kind (codes "lost") then lost_of written
     else None
 
--- the answer with this number that says this (format, Lines of a driver)
+-- the answer with this number and this reply (format, Lines of a driver)
 abbrev pub answer_line : Option ℕ → Option Reply → Line
 answer_line (Some number) (Some reply) = Answer number reply
 answer_line (Some _) None = Malformed
 answer_line None _ = Malformed
 
--- an event has its code alone (format, Lines of a driver)
+-- an event has its code and nothing else (format, Lines of a driver)
 abbrev pub event_line : List ℕ → List (List ℕ) → Line
 event_line code [] = option_map_or Event (hexadecimal 4 code) Malformed
 event_line code (_ ∷ _) = Malformed
 
--- what words mean (format, Lines of a driver)
+-- the meaning of words (format, Lines of a driver)
 abbrev pub sentence : List (List ℕ) → Line
 sentence [] = Malformed
 sentence (_ ∷ []) = Malformed
@@ -70,6 +70,6 @@ sentence (first ∷ second ∷ more) =
     if bytes_eq first (codes "event") then event_line second more
     else answer_line (numeral DECIMAL first) (reply_of second more)
 
--- what a line means, without its line feed (format, Lines of a driver)
+-- the meaning of a line, without its line feed (format, Lines of a driver)
 abbrev pub meaning : List ℕ → Line
 meaning line = sentence (words (without_return line))

@@ -1,12 +1,12 @@
--- Calls of a transport, and runs of them.
+-- Calls of a transport, and runs of calls.
 use Rattle.std.specs.Prelude.{◌≡◌, ℕ, List, [], ◌∷◌, Result, Ok, Err}
 use Rattle.iol_wire.specs.declared.transport.Position.{Position}
 use Rattle.iol_wire.specs.declared.transport.Opening.{Opening}
 use Rattle.iol_wire.specs.declared.transport.Opening.TheVariants as opening
 use Rattle.iol_wire.specs.declared.transport.TransportFault.{TransportFault}
 
--- a call of a transport with what it did: the files stayed open, were opened anew at such a place, or are missing; octets were
--- sent, or not all of them; an octet was received, or none came (own)
+-- a call of a transport and its effect: the files stayed open, were opened again at this position, or are missing; the octets
+-- were sent, or not all of them; an octet was received, or none came (own)
 pub data TransportCall : Type 0 where
   Stayed : TransportCall
   Opened : (position : Position) → TransportCall
@@ -32,7 +32,7 @@ abbrev pub receive_call : Result ℕ TransportFault → TransportCall
 receive_call (Ok octet) = Received octet
 receive_call (Err _) = Unheard
 
--- calls lead from one transport to another (own)
+-- these calls lead from one transport to another (own)
 abbrev pub Run : {T : Type 0} → (T → TransportCall → T → Type 0) → T → List TransportCall → T → Type 0
 Run moves old [] new = old ≡ new
 Run {T} moves old (call ∷ more) new = (next : T) × moves old call next × Run moves next more new

@@ -10,15 +10,15 @@ use Rattle.iol_wire.specs.Hearing.{Connects, Hears}
 use Rattle.iol_wire.specs.Requests.{Asked, Page, Isdu, request_line}
 use Rattle.iol_wire.specs.Transport.{TransportCall, Missing, Sent, Unsent, Run}
 
--- what a link holds besides its transport: where the next octets begin, the number of the last request, the number of the
--- connection, and the codes of events that were not yet taken, oldest first (own)
+-- the state of a link besides its transport: the position of the next octets, the number of the last request, the number
+-- of the connection, and the codes of events that were not taken yet, oldest first (own)
 pub record Wire : Type 0 where
   pub position : Position
   pub number : ℕ
   pub connection : ℕ
   pub events : List ℕ
 
--- what a link holds besides its transport, and its transport (own)
+-- the state of a link besides its transport, and its transport (own)
 abbrev pub wire_of : {T : Type 0} → WireLink T → Wire
 wire_of link = record {
   position = link.stream.position;
@@ -30,17 +30,17 @@ wire_of link = record {
 abbrev pub transport_of : {T : Type 0} → WireLink T → T
 transport_of link = link.stream.transport
 
--- the link once its device is lost: on the next connection, without events (format, Lines of a driver)
+-- the link after its device is lost: on the next connection, without events (format, Lines of a driver)
 abbrev pub lost : Wire → Wire
 lost wire = record wire { connection = wire.connection + 1; events = [] }
 
--- the octets that this reply answers to what was asked, if it is of that kind (format, Lines of a driver)
+-- the octets that this reply gives as the answer to the request, if it is of its kind (format, Lines of a driver)
 abbrev pub octets_of : Asked → Option Reply → Option (List ℕ)
 octets_of Page (Some (reply.Page octets)) = Some octets
 octets_of (Isdu _) (Some (reply.Isdu octets)) = Some octets.items
 octets_of _ _ = None
 
--- a request that is sent under the next number, and heard (own)
+-- a request that is sent under the next number, and what is received after it (own)
 pub record Asks (old : Wire) (asked : Asked) (calls : List TransportCall) (answer : Option Reply) (new : Wire) : Type 0 where
   pub opening : TransportCall
   pub start : Position
@@ -62,17 +62,17 @@ pub record FailsToAsk (old : Wire) (asked : Asked) (calls : List TransportCall) 
   pub connection : new.connection ≡ old.connection
   pub events : new.events ≡ old.events
 
--- no request: the files are missing, or it is none that can be spelled, or its number would be 2^64 (own)
+-- no request is sent: the files are missing, or the request cannot be written, or its number would be 2^64 (own)
 abbrev pub AsksNothing : Wire → Asked → List TransportCall → Wire → Type 0
 AsksNothing old asked calls new = (new ≡ old) × ((calls ≡ Missing ∷ []) ⊎ (calls ≡ []))
 
--- what a link does to ask, and what it then has for an answer (own)
+-- how a link sends a request, and the answer that it then has (own)
 abbrev pub AskStep : Wire → Asked → List TransportCall → Option Reply → Wire → Type 0
 AskStep old asked calls answer new =
     Asks old asked calls answer new
     ⊎ ((answer ≡ None) × (FailsToAsk old asked calls new ⊎ AsksNothing old asked calls new))
 
--- how a call ends that had this for an answer: with the octets, or with the loss of the device (own)
+-- how a call ends with this answer: with the octets, or with the loss of the device (own)
 abbrev pub Concludes : Asked → Option Reply → Wire → LinkAnswer → Wire → Type 0
 Concludes asked reply wire answer new =
     MatchOption (octets_of asked reply) ((answer ≡ Gone) × (new ≡ lost wire)) (λ octets. (answer ≡ Octets octets) × (new ≡ wire))
@@ -82,7 +82,7 @@ abbrev pub IsLast : Wire → List TransportCall → LinkAnswer → LinkAnswer �
 IsLast old calls nothing answer new =
     (old.connection ≡ last_connection) × (calls ≡ []) × (answer ≡ nothing) × (new ≡ old)
 
--- what a link does at a request (own)
+-- how a link handles a request (own)
 abbrev pub RequestStep : Wire → Asked → List TransportCall → LinkAnswer → Wire → Type 0
 RequestStep old asked calls answer new =
     IsLast old calls Gone answer new
@@ -94,19 +94,19 @@ abbrev pub Takes : Wire → List ℕ → LinkAnswer → Wire → Type 0
 Takes old [] answer new = (answer ≡ NoEvent) × (new ≡ old)
 Takes old (code ∷ more) answer new = (answer ≡ Event code) × (new ≡ record old { events = more })
 
--- what a link does when it is asked for an event (own)
+-- how a link handles a call for an event (own)
 abbrev pub EventStep : Wire → List TransportCall → LinkAnswer → Wire → Type 0
 EventStep old calls answer new =
     IsLast old calls NoEvent answer new
     ⊎ ((old.connection ≢ last_connection) × (calls ≡ []) × Takes old old.events answer new)
 
--- what a link does at a call, with these calls of its transport (own)
+-- how a link handles a call, with these calls of its transport (own)
 abbrev pub WireStep : Wire → LinkCall → List TransportCall → LinkAnswer → Wire → Type 0
 WireStep old TakeEvent calls answer new = EventStep old calls answer new
 WireStep old ReadPage calls answer new = RequestStep old Page calls answer new
 WireStep old (Exchange request) calls answer new = RequestStep old (Isdu request) calls answer new
 
--- a call of a link whose transport moves so (own)
+-- a call of a link whose transport follows this relation (own)
 abbrev pub LinkSteps : {T : Type 0} → (T → TransportCall → T → Type 0) → WireLink T → LinkCall → LinkAnswer → WireLink T → Type 0
 LinkSteps moves old call answer new =
     (calls : List TransportCall) × Run moves (transport_of old) calls (transport_of new)

@@ -1,4 +1,4 @@
-//! Lines of a driver and of requests, and what a link makes of them, worked out by the check.
+//! Lines of a driver and of requests, and their effect on a link, worked out by the check.
 
 ghost use Rattle.std.specs.Prelude.{◌≡◌, ℕ, List, [], ◌∷◌, ◌++◌, codes, flat_map, length, map, replicate};
 ghost use Rattle.iol_wire.specs.Lines.{meaning};
@@ -21,7 +21,7 @@ pub fn events()
         ∷ codes "event 8C40 1" ∷ codes "Event 8C40" ∷ codes "event +C40" ∷ []) ≡ replicate 7 Line.Malformed }
 {}
 
-/// A page has 16 octets, and neither 15 nor 17.
+/// A page has 16 octets; 15 or 17 are refused.
 pub fn pages()
     ensures of_16 { meaning (codes "1 page 00 01 03 13 00 00 11 02 0A 00 10 20 00 00 00 00") ≡ Line.Answer 1
         (Reply.Page (0x00 ∷ 0x01 ∷ 0x03 ∷ 0x13 ∷ 0x00 ∷ 0x00 ∷ 0x11 ∷ 0x02 ∷ 0x0A ∷ 0x00 ∷ 0x10 ∷ 0x20 ∷ replicate 4 0x00)) }
@@ -30,7 +30,7 @@ pub fn pages()
     ensures of_none { meaning (codes "1 page") ≡ Line.Malformed }
 {}
 
-/// An answer of an ISDU has 0 to 238 octets, each with two digits of either case.
+/// An answer to an ISDU request has 0 to 238 octets, each with two digits of either case.
 pub fn isdus()
     ensures of_4 { meaning (codes "2 isdu D4 0a 64 Ba") ≡ Line.Answer 2
         (Reply.Isdu (record { items = 0xD4 ∷ 0x0A ∷ 0x64 ∷ 0xBA ∷ [] })) }
@@ -42,14 +42,14 @@ pub fn isdus()
         ∷ codes "2 isdu 0x" ∷ codes "2 isdu D4,0A" ∷ codes "2 isdu +4" ∷ []) ≡ replicate 7 Line.Malformed }
 {}
 
-/// A loss is the word alone.
+/// A loss is this word alone.
 pub fn losses()
     ensures lost { meaning (codes "3 lost") ≡ Line.Answer 3 Reply.Lost }
     ensures refused { map meaning (codes "3 lost 00" ∷ codes "3 Lost" ∷ codes "lost" ∷ codes "lost 3" ∷ [])
         ≡ replicate 4 Line.Malformed }
 {}
 
-/// A number is decimal digits below 2^64. 0 is older than each request.
+/// A number is written in decimal digits and is below 2^64. 0 is older than each request.
 pub fn numbers()
     ensures zero { meaning (codes "0 lost") ≡ Line.Answer 0 Reply.Lost }
     ensures leading_zeros { meaning (codes "007 lost") ≡ Line.Answer 7 Reply.Lost }
@@ -58,7 +58,8 @@ pub fn numbers()
         ∷ codes "-7 lost" ∷ codes "7A lost" ∷ codes "0x7 lost" ∷ []) ≡ replicate 6 Line.Malformed }
 {}
 
-/// Blanks may be more than one, before the first word and after the last too. A carriage return at the end is dropped.
+/// There may be several blanks in a row, and also blanks before the first word and after the last. A carriage return at the
+/// end is dropped.
 pub fn blanks()
     ensures several { meaning (codes "   4    lost  ") ≡ Line.Answer 4 Reply.Lost }
     ensures with_return { meaning (codes "4 lost\r") ≡ Line.Answer 4 Reply.Lost }
@@ -67,7 +68,7 @@ pub fn blanks()
         ≡ replicate 4 Line.Malformed }
 {}
 
-/// Lines of no words, of one word, and of words that mean nothing.
+/// Lines without words, of one word, and of words without a meaning.
 pub fn malformed_lines()
     ensures empty { map meaning ([] ∷ codes " " ∷ codes "\r" ∷ []) ≡ replicate 3 Line.Malformed }
     ensures one_word { map meaning (codes "5" ∷ codes "page" ∷ codes "event" ∷ []) ≡ replicate 3 Line.Malformed }
@@ -76,7 +77,7 @@ pub fn malformed_lines()
     ensures no_ascii { meaning (0x35 ∷ 0x20 ∷ 0xC3 ∷ 0xA9 ∷ []) ≡ Line.Malformed }
 {}
 
-/// Requests: a number without leading zeros, octets of upper case with one blank before each, a line feed.
+/// A request has a number without leading zeros, octets of upper case with one blank before each, and a line feed.
 pub fn requests()
     ensures page { request_line 1 Page ≡ codes "1 page\n" }
     ensures isdu { request_line 20 (Isdu (0x93 ∷ 0x0A ∷ 0xBF ∷ [])) ≡ codes "20 isdu 93 0A BF\n" }
@@ -91,8 +92,8 @@ pub fn longest_lines()
     ensures reached { length (request_line 18446744073709551615 (Isdu (replicate 238 0x00))) ≡ REQUEST_LINE_OCTETS }
 {}
 
-/// After the request with number 5 events and answers with numbers 0 to 4 are passed over, and the device is lost at an answer
-/// with number 6 and at a malformed line. An answer with number 5 is neither.
+/// After the request with number 5, events and answers with numbers 0 to 4 are passed over. At an answer with number 6 and at
+/// a malformed line the device is lost. An answer with number 5 does neither.
 pub fn older_and_newer_answers()
     ensures event { Passes 5 (Line.Event 0x8C40) }
     ensures older { Passes 5 (Line.Answer 4 Reply.Lost) × Passes 5 (Line.Answer 0 Reply.Lost) }
@@ -104,7 +105,7 @@ pub fn older_and_newer_answers()
     ensures malformed_passes { Passes 5 Line.Malformed → ⊥ }
 {}
 
-/// An answer of another kind than asked, and a loss, answer no octets.
+/// An answer of another kind than the request, and a loss, give no octets.
 pub fn kinds_of_answers()
     ensures page { octets_of Page (Some (Reply.Page (replicate 16 0x02))) ≡ Some (replicate 16 0x02) }
     ensures isdu { octets_of (Isdu (0x93 ∷ [])) (Some (Reply.Isdu (record { items = 0x01 ∷ [] }))) ≡ Some (0x01 ∷ []) }
@@ -123,13 +124,13 @@ pub fn kept_events()
     ensures further { kept (replicate 16 7) (8 ∷ []) ≡ replicate 16 7 }
 {}
 
-/// With a loss the next connection begins, without the events of the last one. The number of the last request stays.
+/// A loss begins the next connection, without the events of the previous one. The number of the last request stays.
 pub fn a_loss()
     ensures { lost (record { position = Position.LineStart; number = 7; connection = 3; events = 1 ∷ 2 ∷ [] })
         ≡ record { position = Position.LineStart; number = 7; connection = 4; events = [] } }
 {}
 
-/// At a line's start nothing is dropped. Within a line its rest is, up to the line feed and no further.
+/// At the start of a line nothing is dropped. Within a line, its rest is dropped, up to the line feed and no further.
 pub fn rests_of_lines()
     ensures at_start { IsRest Position.LineStart [] }
     ensures line_at_start { IsRest Position.LineStart (codes "00\n") → ⊥ }

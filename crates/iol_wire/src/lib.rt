@@ -1,11 +1,11 @@
-//! Links to the devices of a port over a driver: a process at the other end of a character device, a
-//! pseudo-terminal or two FIFOs, which speaks with the hardware. Calls of a link come in; lines of
-//! ASCII go out, and the lines that come back are answers, events, or the loss of the device
+//! Links to the devices of a port through a driver: a process at the other end of a character
+//! device, a pseudo-terminal or two FIFOs, which controls the hardware. Calls of a link come in and
+//! lines of ASCII go out; the lines that come back are answers, events, or the loss of the device
 //! (docs/FORMATS.md, "Lines of a driver").
 //!
-//! In reading order: `line` (what a line means), `reading`, over `words` and `numeral`, and
-//! `writing`; `transport` (the trait of what carries octets), `stream` (lines out of octets),
-//! `events` and `wire_link` (the link); `examples` (lines and steps, worked out).
+//! Modules in reading order: `line` (the meaning of a line), `reading`, which uses `words` and
+//! `numeral`, and `writing`; `transport` (the trait that carries octets), `stream` (lines out of
+//! octets), `events` and `wire_link` (the link); `examples` (lines and steps, worked out).
 #![tactic(auto)]
 
 mod events;

@@ -1,20 +1,20 @@
-//! What a line of a driver means.
+//! The meaning of a line of a driver.
 
 use arrayvec::ArrayVec;
 use iol_link::{ISDU_OCTETS, PAGE_OCTETS};
 
-/// What a line of a driver means.
+/// The meaning of a line of a driver.
 #[derive(Debug, PartialEq, Eq, Drop)]
 pub enum Line {
     /// The device raised the event with this EventCode.
     Event(u16),
     /// The answer to the request with this number.
     Answer { number: u64, reply: Reply },
-    /// The line is none of the others.
+    /// The line has none of the other meanings.
     Malformed,
 }
 
-/// What an answer says.
+/// The contents of an answer.
 #[derive(Debug, PartialEq, Eq, Drop)]
 pub enum Reply {
     /// The octets of Direct Parameter page 1, at their addresses 0x00 to 0x0F.

@@ -1,4 +1,4 @@
-//! Numbers that words write.
+//! The numbers that words spell.
 
 ghost use Rattle.std.specs.Prelude.{◌≡◌, ◌≤◌, ◌<◌, ◌^◌, length, IfSome};
 ghost use Rattle.iol_wire.specs.Numeral.{numeral, hexadecimal};
@@ -9,7 +9,8 @@ pub(crate) const DECIMAL: u32 = 10;
 /// The radix of octets and EventCodes.
 pub(crate) const HEXADECIMAL: u32 = 16;
 
-// The number that digits of a radix write; `None` if an octet is no digit, or from 2^64 on.
+// The number that these digits spell in this radix; `None` if an octet is no digit, or if the
+// number is 2^64 or more.
 pub(crate) fn numeral(radix: u32, digits: &[u8]) -> Option<u64>
     requires low { 2 ≤ radix }
     requires high { radix ≤ 36 }
@@ -26,7 +27,7 @@ pub(crate) fn numeral(radix: u32, digits: &[u8]) -> Option<u64>
     Some(value)
 }
 
-// The octet that two hexadecimal digits write, of either case.
+// The octet that two hexadecimal digits of either case spell.
 pub(crate) fn octet(word: &[u8]) -> Option<u8>
     ensures { result ≡ hexadecimal 2 word.now }
 {
@@ -39,7 +40,7 @@ pub(crate) fn octet(word: &[u8]) -> Option<u8>
     }
 }
 
-// The EventCode that four hexadecimal digits write, of either case.
+// The EventCode that four hexadecimal digits of either case spell.
 pub(crate) fn event_code(word: &[u8]) -> Option<u16>
     ensures { result ≡ hexadecimal 4 word.now }
 {

@@ -1,4 +1,4 @@
-//! Lines of a driver, read.
+//! Reads the lines of a driver.
 
 ghost use Rattle.std.specs.Prelude.{◌≡◌, ◌∷◌, Some, None, List, ℕ, length, IfSome, IfNone};
 ghost use Rattle.std.specs.Option.{option_map};
@@ -12,13 +12,13 @@ use crate::words::first_word;
 use arrayvec::ArrayVec;
 use iol_link::{ISDU_OCTETS, PAGE_OCTETS};
 
-/// The most octets before the line feed of a line, of which the longest answer has 740.
+/// The most octets of a line before its line feed. The longest answer has 740.
 pub const LINE_OCTETS: usize = 800;
 
-/// The octet before a line feed that is dropped, a carriage return of ASCII.
+/// The octet that is dropped before a line feed, an ASCII carriage return.
 pub(crate) const CARRIAGE_RETURN: u8 = b'\r';
 
-/// What the octets of a line, without its line feed, mean.
+/// The meaning of a line, given without its line feed.
 pub fn read_line(line: &[u8]) -> Line
     ensures { result ≡ meaning line.now }
 {
@@ -86,7 +86,8 @@ fn page(rest: &[u8]) -> Option<Reply>
     }
 }
 
-// The octets that the words write; `None` if a word writes no octet, or if there are more words.
+// The octets that the words spell; `None` if a word spells no octet, or if there are more than
+// `MOST` words.
 fn octets_within<const MOST: usize>(rest: &[u8]) -> Option<ArrayVec<u8, MOST>>
     ensures { option_map (λ octets. octets.items) result ≡ octets_within MOST (words rest.now) }
 {

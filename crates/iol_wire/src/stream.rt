@@ -1,4 +1,4 @@
-//! Lines out of a transport's octets.
+//! Makes lines out of the octets of a transport.
 
 ghost use Rattle.std.specs.Prelude.{◌≡◌, ◌∷◌, ◌++◌, ◌⊎◌, ◌-◌, ◌^◌, List, [], ℕ, length, OnOk, OnErr, IfOk};
 ghost use Rattle.iol_wire.specs.Transport.{TransportCall, Missing, Run, send_call};
@@ -9,11 +9,11 @@ use crate::transport::{Opening, Position, Transport, TransportFault};
 use crate::writing::LINE_FEED;
 use arrayvec::ArrayVec;
 
-/// Octets that come to no end of their line.
+/// The octets stopped, or were too many, before their line ended.
 #[derive(Clone, Copy, Debug, Drop)]
 pub(crate) struct Unended;
 
-/// A transport, and where its next octets begin.
+/// A transport, and the place in a line where its next octets begin.
 #[derive(Drop)]
 pub(crate) struct LineStream<T: Transport> {
     transport: T,
@@ -41,7 +41,8 @@ impl<T: Transport> LineStream<T> {
         transport
     }
 
-    // Begins a request. Octets of a connection that was opened anew begin where the transport says.
+    // Begins a request. If the connection was opened again, its octets begin where the transport
+    // says.
     pub(crate) fn connect(&mut self) -> Result<(), TransportFault>
         ensures connected { OnOk result ((opening : TransportCall) × Connects self.old.position opening self.new.position
             × Run T.moves self.old.transport (opening ∷ []) self.new.transport) }
@@ -86,7 +87,7 @@ impl<T: Transport> LineStream<T> {
         Err(Unended)
     }
 
-    // The next line, without its line feed.
+    // Reads the next line and returns it without its line feed.
     pub(crate) fn next_line(&mut self) -> Result<ArrayVec<u8, LINE_OCTETS>, Unended>
         requires { self.old.position ≡ Position.LineStart }
         ensures line { IfOk result (λ line. IsWhole line.items

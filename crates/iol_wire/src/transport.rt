@@ -1,10 +1,10 @@
-//! What carries octets to a driver and back.
+//! The carrier of octets to a driver and back.
 
 ghost use Rattle.iol_wire.specs.Transport.{TransportCall, connect_call, send_call, receive_call};
 
 use thiserror::Error;
 
-/// Where the octets that come next begin.
+/// The place in a line where the next octets begin.
 #[derive(Clone, Copy, Debug, PartialEq, Eq)]
 pub enum Position {
     /// At a line's first octet.
@@ -13,16 +13,17 @@ pub enum Position {
     WithinLine,
 }
 
-/// What a call of [`Transport::connect`] found.
+/// The result of a call of [`Transport::connect`].
 #[derive(Clone, Copy, Debug, PartialEq, Eq)]
 pub enum Opening {
-    /// The connection to the driver is that of the call before.
+    /// The connection to the driver is still that of the previous call.
     Stayed,
-    /// The connection was opened anew, and what had come before was dropped, up to such a place.
+    /// The connection was opened again. Octets that had come before were dropped, and the next ones
+    /// begin at this place.
     Anew(Position),
 }
 
-/// Why no octets went over.
+/// The reasons why no octets were carried.
 #[derive(Clone, Copy, Debug, PartialEq, Eq, Drop, Error)]
 pub enum TransportFault {
     /// No driver is there.
@@ -36,19 +37,21 @@ pub enum TransportFault {
     Closed,
 }
 
-/// What carries octets to a driver and back.
+/// Carries octets to a driver and back.
 ///
-/// Its relation, `moves`, says what a call may do and which transport it leaves. That of a transport
-/// in memory may be exact; that of files holds what is known of them, which is nothing.
+/// Its relation, `moves`, says what a call may do and which transport it leaves. The relation of a
+/// transport in memory may be exact; that of a transport over files says what is known of them,
+/// which is nothing.
 pub trait Transport {
-    /// From a transport, the call may be made with this result and leave that transport.
+    /// Starting from this transport, the call may be made with this result and leave that transport.
     ghost moves: { Self → TransportCall → Self → Type 0 };
 
-    /// Begins a request: opens the connection if none is open, and limits the time of the calls
-    /// that follow.
+    /// Begins a request: opens the connection if none is open, and limits the time of the calls that
+    /// follow.
     ///
     /// # Errors
-    /// `Absent` if no connection can be opened, after a pause, so that no processor is kept busy.
+    /// `Absent` if no connection can be opened; it is returned after a pause, so that no processor
+    /// is kept busy.
     fn connect(&mut self) -> Result<Opening, TransportFault>
         ensures { moves self.old (connect_call result) self.new };
 

@@ -18,18 +18,18 @@ use crate::writing::{Request, request_line};
 use arrayvec::ArrayVec;
 use iol_link::{DeviceLink, ISDU_OCTETS, Lost, PAGE_OCTETS};
 
-/// A link to the devices of a port, over a transport to a driver that speaks in lines of ASCII
-/// (docs/FORMATS.md, "Lines of a driver").
+/// A link to the devices of a port through a driver, which is sent and sends lines of ASCII over a
+/// transport (docs/FORMATS.md, "Lines of a driver").
 ///
-/// Requests are numbered from 1. An answer is that of a line with the request's number and of its
-/// kind. Events before it are kept, at most 16, until they are taken, oldest first; answers to
-/// earlier requests are dropped. At anything else, and where the transport fails, the device is
-/// `Lost`, and the next connection begins without events. The rest of a line that came to no end is
-/// dropped later. An ISDU request of over 238 octets is `Lost`, and nothing is sent; so is each
-/// request after number 2^64 - 1.
+/// Requests are numbered from 1. The answer to a request is a line that has the number of the
+/// request and is of its kind. Events before it are kept, at most 16, until they are taken, oldest
+/// first; answers to earlier requests are dropped. At anything else, and if the transport fails,
+/// the device is `Lost`, and the next connection begins without events. The rest of a line that did
+/// not end is dropped later. An ISDU request of over 238 octets is `Lost`, and nothing is sent; so
+/// is each request after number 2^64 - 1.
 ///
-/// Its relation says which calls it makes of the transport. That one device answers on a connection
-/// is the driver's promise. A call ends in the time that its transport takes.
+/// Its relation says which calls it makes of the transport. That a single device answers on a
+/// connection is guaranteed by the driver. A call takes as long as its transport takes.
 #[derive(Drop)]
 pub struct WireLink<T: Transport> {
     stream: LineStream<T>,
@@ -39,7 +39,7 @@ pub struct WireLink<T: Transport> {
 }
 
 impl<T: Transport> WireLink<T> {
-    /// A link on connection 0, before its first request.
+    /// Creates a link on connection 0, before its first request.
     pub fn new(transport: T) -> WireLink<T>
         ensures { wire_of result ≡ record { position = LineStart; number = 0; connection = 0; events = [] } }
     {
@@ -51,7 +51,7 @@ impl<T: Transport> WireLink<T> {
         }
     }
 
-    /// Hands the transport back.
+    /// Returns the transport.
     pub fn into_transport(self) -> T
         ensures { result ≡ transport_of self }
     {
@@ -64,7 +64,7 @@ impl<T: Transport> WireLink<T> {
         stream.into_transport()
     }
 
-    // What the driver answers to a request; `None` if no answer to it came.
+    // Sends a request and returns the answer of the driver; `None` if no answer to it came.
     fn ask(&mut self, request: Request<'_>) -> Option<Reply>
         requires { self.old.connection < 18446744073709551615 }
         ensures connection { self.new.connection ≡ self.old.connection }
@@ -90,7 +90,7 @@ impl<T: Transport> WireLink<T> {
         }
     }
 
-    // The answer to the request with this number; the events before it are kept.
+    // Receives the answer to the request with this number, and keeps the events before it.
     fn hear(&mut self, number: u64) -> Option<Reply>
         ensures number { self.new.number ≡ self.old.number }
         ensures connection { self.new.connection ≡ self.old.connection }
@@ -124,7 +124,7 @@ impl<T: Transport> WireLink<T> {
         None
     }
 
-    // The device is lost: the next connection begins.
+    // Ends the connection, because the device is lost; the next connection begins.
     fn lose(&mut self) -> Lost
         requires { self.old.connection < 18446744073709551615 }
         ensures wire { wire_of self.new ≡ lost (wire_of self.old) }

@@ -3,7 +3,7 @@
 ghost use Rattle.std.specs.Prelude.{◌≡◌, ◌≢◌, ◌∷◌, ◌<◌, ◌≤◌, [], length, position, slice_index, MatchOption, IfSome};
 ghost use Rattle.iol_wire.specs.Words.{is_blank, words};
 
-/// The octet between words, a blank of ASCII.
+/// The octet between words, an ASCII blank.
 pub(crate) const BLANK: u8 = b' ';
 
 // The first word of octets, and the octets after it and its blank; `None` if there is no word.
@@ -19,7 +19,7 @@ pub(crate) fn first_word(octets: &[u8]) -> Option<(&[u8], &[u8])>
     Some(cut_at_blank(from_word))
 }
 
-// The octets from the first on that is no blank.
+// The octets from the first one that is not a blank.
 fn without_blanks(octets: &[u8]) -> &[u8]
     ensures words { words result.now ≡ words octets.now }
     ensures shorter { length result.now ≤ length octets.now }

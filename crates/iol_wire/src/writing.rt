@@ -1,4 +1,4 @@
-//! Lines of requests, written.
+//! Writes the lines of requests.
 
 ghost use Rattle.std.specs.Prelude.{◌≡◌, ◌≤◌, ◌<◌, ◌+◌, ◌*◌, ◌++◌, length, flat_map, slice_index, codes, IsTrue, IfSome, IsSome};
 ghost use Rattle.std.specs.Prelude.{◌↔◌, decimal};
@@ -10,24 +10,24 @@ use arrayvec::ArrayVec;
 use iol_link::ISDU_OCTETS;
 use itoa::Buffer;
 
-/// The most octets of a line of a request, with its line feed: a number of 20 digits, ` isdu`, 238
-/// octets of three each, and the line feed.
+/// The most octets of the line of a request, with its line feed: a number of 20 digits, ` isdu`,
+/// 238 octets of three characters each, and the line feed.
 pub const REQUEST_LINE_OCTETS: usize = 20 + 5 + 3 * ISDU_OCTETS + 1;
 
-/// The octet that ends a line, a line feed of ASCII.
+/// The octet that ends a line, an ASCII line feed.
 pub(crate) const LINE_FEED: u8 = b'\n';
 
-/// What a driver is asked.
+/// The request that a driver is sent.
 #[derive(Clone, Copy, Debug)]
 pub enum Request<'a> {
-    /// Direct Parameter page 1.
+    /// Reads Direct Parameter page 1.
     Page,
-    /// The answer to these octets of an ISDU request.
+    /// Sends these octets of an ISDU request and asks for the answer.
     Isdu(&'a [u8]),
 }
 
-/// The line of a request with this number, with its line feed; `None` for an ISDU of more than 238
-/// octets.
+/// Returns the line of a request with this number, with its line feed; `None` for an ISDU of more
+/// than 238 octets.
 pub fn request_line(number: u64, request: Request<'_>) -> Option<ArrayVec<u8, REQUEST_LINE_OCTETS>>
     ensures spelled { IfSome result (λ line. line.items ≡ request_line number (asked_of request.entry)) }
     ensures fits { IsSome result ↔ FitsLine (asked_of request.entry) }
@@ -52,7 +52,7 @@ fn fits_line(request: Request<'_>) -> bool
     }
 }
 
-// Writes what is asked, after the number, and leaves a place for the line feed.
+// Writes the request after its number, and leaves space for the line feed.
 fn write_asked(line: &mut ArrayVec<u8, REQUEST_LINE_OCTETS>, request: Request<'_>)
     requires number { array_vec_len line.old ≤ 20 }
     requires fits { FitsLine (asked_of request) }
@@ -78,7 +78,7 @@ fn write(line: &mut ArrayVec<u8, REQUEST_LINE_OCTETS>, octets: &[u8])
     }
 }
 
-// Writes each octet as a word of two digits, after a blank.
+// Writes each octet as a blank and a word of two digits.
 fn write_octets(line: &mut ArrayVec<u8, REQUEST_LINE_OCTETS>, octets: &[u8])
     requires { array_vec_len line.old + 3 * length octets.now ≤ REQUEST_LINE_OCTETS }
     ensures written { line.new.items ≡ line.old.items ++ flat_map octet_word octets.now }

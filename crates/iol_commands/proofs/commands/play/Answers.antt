@@ -3,7 +3,7 @@ use Rattle.iol_script.specs.Script.{Said}
 use Rattle.iol_commands.specs.Played.{IsPlayed}
 use Rattle.iol_commands.proofs.commands.play.Goals as goal
 
--- the text is that of the run that was played
+-- the text is that of the run that was made
 pub returns-clause-printed : goal.returns-clause-printed
 returns-clause-printed c =
     let played = c.in_ok-played.played in

@@ -7,7 +7,7 @@ pub returns-in_err-format-clause-any_moment : goal.returns-in_err-format-clause-
 returns-in_err-format-clause-any_moment g c =
     leaves_forced c.args.geometry _ _ _ c.erase_if_forced.ensures.any_moment c.format.ensures.any_moment
 
--- of a disk of two sectors, `is_formatted` is that the gate is open
+-- for a disk of two sectors, `is_formatted` means that the gate is open
 pub returns-in_err-format-clause-kept : goal.returns-in_err-format-clause-kept
 returns-in_err-format-clause-kept g c = λ unforced formatted.
     let disk = g.D.SectorDisk.disk in

@@ -12,7 +12,7 @@ use Rattle.iol_commands.specs.Devices.{links_of}
 use Rattle.iol_commands.specs.Steps.{tasks_of}
 use Rattle.iol_commands.proofs.run.make_run.Goals as goal
 
--- the links and the tasks are those that the script says
+-- the links and the tasks are those of the script
 pub returns-in-Whole-clause-run : goal.returns-in-Whole-clause-run
 returns-in-Whole-clause-run g c =
     let script_ = c.args.script.now in

@@ -9,7 +9,7 @@ use Rattle.iol_journal.specs.Underway.{IsUnderway}
 use Rattle.iol_example.proofs.CallLaws.{IsAhead}
 use Rattle.iol_example.proofs.store.finish.Given as goal
 
--- the batch stays under way behind the same commands, and so far left the state before it or after it
+-- the batch is under way after the same commands, and so far left the state before it or after it
 abbrev pub invariant-loop-next : goal.invariant-loop-next
 invariant-loop-next g l =
     let d = g.D.SectorDisk.disk in

@@ -10,7 +10,7 @@ use Rattle.iol_example.specs.Store.{Rests}
 use Rattle.iol_example.proofs.CallLaws.{IsAhead}
 use Rattle.iol_example.proofs.store.with_free_slot.Given as goal
 
--- the checkpoint stays under way behind the same commands, and so far left the number and the state
+-- the checkpoint is under way after the same commands, and so far left the number and the state
 abbrev pub invariant-loop-next : goal.invariant-loop-next
 invariant-loop-next g l =
     let d = g.D.SectorDisk.disk in

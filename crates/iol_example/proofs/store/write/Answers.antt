@@ -43,7 +43,7 @@ returns-in_err-journal-clause-run g c = λ r behind queued run.
     let written = with_batch_written (with_batch_begun r (value_of c.args.command ∷ []) behind) in
     rw (p.1, p.2) (faulted_run g.D.SectorDisk.disk r r written c.in_err-journal.field-0.0 (c.in_err-journal.ensures.run r run))
 
--- memory ran out
+-- out of memory
 pub returns-in_default-clause-any_moment : goal.returns-in_default-clause-any_moment
 returns-in_default-clause-any_moment g c = λ rests.
     or_after _ _ _ _ (value_of c.args.command ∷ []) (c.in_ok-journal.ensures.any_moment rests)

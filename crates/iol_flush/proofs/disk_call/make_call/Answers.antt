@@ -17,7 +17,7 @@ returns-in-Given-clause-sound g c =
     subst (λ stage. IsSound g.D.SectorDisk.disk stage → IsSound g.D.SectorDisk.disk c.begin.result.0) (sym c.in-Given.is)
     c.begin.ensures.sound
 
--- a checkpoint is under way
+-- a checkpoint is being written, and a batch waits for it
 pub returns-in-Checkpointing-clause-step : goal.returns-in-Checkpointing-clause-step
 returns-in-Checkpointing-clause-step g c =
     subst (λ stage. IsDiskStep g.D.SectorDisk.disk stage c.checkpoint.result.0 c.checkpoint.result.1)
@@ -32,7 +32,7 @@ returns-in-Checkpointing-clause-sound g c =
     subst (λ stage. IsSound g.D.SectorDisk.disk stage → IsSound g.D.SectorDisk.disk c.checkpoint.result.0) (sym c.in-Checkpointing.is)
     c.checkpoint.ensures.sound
 
--- a batch is under way
+-- a batch is being written
 pub returns-in-Writing-clause-step : goal.returns-in-Writing-clause-step
 returns-in-Writing-clause-step g c =
     subst (λ stage. IsDiskStep g.D.SectorDisk.disk stage c.write.result.0 c.write.result.1) (sym c.in-Writing.is) c.write.ensures.step
@@ -60,7 +60,7 @@ returns-in-Resting-clause-sound g c =
     subst (λ stage. IsSound g.D.SectorDisk.disk stage → IsSound g.D.SectorDisk.disk c.go_on.result.0) (sym c.in-Resting.is)
     c.go_on.ensures.sound
 
--- the gate of a checkpoint is written
+-- a checkpoint that cannot be paused is being written
 pub returns-in-Opening-clause-step : goal.returns-in-Opening-clause-step
 returns-in-Opening-clause-step g c =
     subst (λ stage. IsDiskStep g.D.SectorDisk.disk stage c.advance.result.0 c.advance.result.1) (sym c.in-Opening.is) c.advance.ensures.step

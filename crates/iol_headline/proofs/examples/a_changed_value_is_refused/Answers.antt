@@ -14,7 +14,7 @@ use Rattle.iol_headline.specs.Conversations.{Converses}
 use Rattle.iol_headline.specs.Examples.{example_set, flagged, uploaded, upload}
 use Rattle.iol_headline.specs.WholeSets.{IsUploadedWhole}
 
--- the read that the set speaks of
+-- the read that the set would need
 abbrev wrong : Exchange
 wrong = read_of 0x0041 0x01 (0x7E ∷ [])
 

@@ -24,7 +24,7 @@ later = Configure 1 restore_config
 no_store : (port told revision : ℕ) (config : PortConfig) (set : SetValue) → Configure port config ≡ Store told revision set → ⊥
 no_store port told revision config set same = cc
 
--- the one Store comes behind the first command
+-- the one Store comes after the first command
 before_store : (early late : List CommandValue) (revision : ℕ) (set : SetValue)
     → first ∷ store ∷ later ∷ [] ≡ early ++ Store 1 revision set ∷ late → early ≡ first ∷ []
 before_store [] late revision set same =

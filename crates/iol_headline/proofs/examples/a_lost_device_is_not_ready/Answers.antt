@@ -10,7 +10,7 @@ use Rattle.iol_headline.specs.Conversations.{AreConnected, HasPage}
 use Rattle.iol_headline.specs.Examples.{ended}
 use Rattle.iol_headline.specs.Settled.{IsJudged}
 
--- an event tells a page or a loss
+-- an event reports a page or a loss
 abbrev Parts : Event → Type 0
 Parts e = AreConnected (e ∷ []) → ⊥
 

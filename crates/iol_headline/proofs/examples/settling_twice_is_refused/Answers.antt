@@ -8,7 +8,7 @@ use Rattle.iol_headline.proofs.examples.settling_twice_is_refused.Goals as goal
 use Rattle.iol_headline.specs.Examples.{ended}
 use Rattle.iol_headline.specs.Settled.{IsUnsettled, AreUnsettled, WasToldLast, IsJudged}
 
--- an event tells a work, or that a port has settled
+-- an event reports a work, or that a port has settled
 abbrev Settles : Event → Type 0
 Settles e = IsUnsettled e → ⊥
 

@@ -4,7 +4,7 @@ use Rattle.iol_layout.specs.AreaWrites.{port_writes}
 use Rattle.iol_layout.proofs.AreaRecords.{ArePorts}
 use Rattle.iol_layout.proofs.records.record_sectors.Given as goal
 
--- what was pushed, and the records of the ports behind it, are those of all
+-- what was pushed, and the records of the ports after it, are those of all ports
 abbrev pub invariant-loop-place : goal.invariant-loop-place
 invariant-loop-place l = record {
   are : ArePorts l.fn.layout.version (take l.place l.fn.state);

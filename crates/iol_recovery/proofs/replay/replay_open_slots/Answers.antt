@@ -178,7 +178,7 @@ returns-in_err-read_body-clause-counted g c =
     rw (p.1, p.2) (counted_behind End _ (d c.args.disk.now) (d c.read_head.new.disk) (d c.read_body.new.disk) quiet
     c.in_err-read_body.ensures.counted)
 
--- ---- where memory is wanted
+-- ---- where memory is needed
 
 pub returns-in_err-read_body-clause-memory : goal.returns-in_err-read_body-clause-memory
 returns-in_err-read_body-clause-memory g c = λ told h.
@@ -233,7 +233,7 @@ returns-in_err-number-clause-memory g c = λ told h.
     (inr (subst (λ (n : ℕ). BatchWants c.args.layout.version c.args.header.epoch (c.loop-used.number + 1) c.loop-used.state
     (body_in c.args.layout c.args.area image c.loop-used.used n)) c.slot.ensures.span longer))
 
--- ---- each slot lies on the disk
+-- ---- each slot is on the disk
 
 pub is_open-requires : goal.is_open-requires
 is_open-requires g c =

@@ -27,7 +27,7 @@ loop-j-preserved g c =
           ∙ ap (λ (more : List ℕ). c.loop-j.octets.items ++ more) (c.in_ok-read_sector.ensures.read now));
     }
 
--- all sectors that were read, with the one that was read last
+-- all sectors that were read, including the last one
 pub returns-then-not-port_goes_on-clause-read : goal.returns-then-not-port_goes_on-clause-read
 returns-then-not-port_goes_on-clause-read g c = λ h.
     let old = g.D.SectorDisk.disk c.args.disk.now in

@@ -9,7 +9,7 @@ length-blanks : (count : ℕ) → length (blanks count) ≡ count
 length-blanks zero = refl
 length-blanks (suc count) = let others = length-blanks count in omega arith
 
--- a space is an octet of ASCII, and no carriage return
+-- a space is an octet of ASCII and no carriage return
 blank : (count place : ℕ) → slice_index (blanks count) place < 128
 blank zero place = omega arith
 blank (suc count) zero = omega arith
@@ -20,7 +20,7 @@ no_return zero place = refl
 no_return (suc count) zero = refl
 no_return (suc count) (suc place) = no_return count place
 
--- a text of spaces is one, if it is short
+-- a short text of spaces is the text of a line
 is_text : (count : ℕ) → count ≤ LINE_OCTETS → IsText (blanks count)
 is_text count short = record {
   short = let long = length-blanks count in omega (arith, long);

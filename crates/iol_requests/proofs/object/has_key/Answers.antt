@@ -10,11 +10,11 @@ use Rattle.json.specs.declared.value.Value.{Value}
 use Rattle.iol_script.specs.Table.{is_among}
 use Rattle.iol_requests.proofs.object.has_key.Goals as goal
 
--- a member, as its object has it
+-- a member of an object
 abbrev Entry : Type 0
 Entry = Bor (List ℕ) × Value Global
 
--- a search through members is one through their keys
+-- a search through members is a search through their keys
 among_the_keys : (key : List ℕ) (members : List Entry)
     → list_any (λ (member : Entry). bytes_eq member.0.now key) members ≡ is_among (keys (members_view members)) key
 among_the_keys key [] = refl

@@ -13,7 +13,7 @@ use Rattle.iol_requests.proofs.object.number_in.Goals as goal
 numerals : IsNumeralModel (λ ds. all_ascii_digits ds ≡ true) (digits_value 10)
 numerals = numerals_by_value _ tells_all_ascii_digits
 
--- what the test of a number answers
+-- the result of the range test of a number
 fits : (long : ℕ) (value : ℕ) → 0 < long → value < 2 ^ 63
     → (if nat_lt 0 long && nat_lt value (2 ^ 63) then Some value else None) ≡ Some value
 fits long value some low = grind (arith, nat_tests)
@@ -54,7 +54,7 @@ not_read {E = E} text (Err e) first parsed is =
     none false not = refl
     none true not = empty (length text) (digits_value 10 text) (λ some low. not (refl, some, low))
 
--- a plus in front was ruled out
+-- a plus at the beginning was ruled out
 pub returns-in_err-number-clause-number : goal.returns-in_err-number-clause-number
 returns-in_err-number-clause-number c =
     let test : (get_or c.args.digits.now 0 0 == 43) ≡ false = cc in

@@ -16,7 +16,7 @@ says : (text word pairs document : List ℕ) (verb : Verb) → word ≡ before_f
     → asked_in_words text ≡ option_and_then request_in (parse_document document)
 says text word pairs document verb first others found is = rw (← first, ← others, found, is) refl
 
--- its document is UTF-8
+-- the document is UTF-8
 is_text : (text pairs document : List ℕ) (verb : Verb) → IsUtf8 text → pairs ≡ after_first is_blank text
     → document ≡ document_of verb pairs → IsUtf8 document
 is_text text pairs document verb utf8 others is = rw (is, others) (document_text verb (pairs_in text) (pairs_text text utf8))

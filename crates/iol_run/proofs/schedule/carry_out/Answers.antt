@@ -14,7 +14,7 @@ use Rattle.iol_run.proofs.Making.{run_made, begun_stays}
 use Rattle.iol_run.proofs.Traces.{tells_run}
 use Rattle.iol_run.proofs.schedule.carry_out.Goals as goal
 
--- the tasks were made so, and what was told says so
+-- the tasks made these steps, and the events say so
 pub returns-in-Ok-clause-run : goal.returns-in-Ok-clause-run
 returns-in-Ok-clause-run g c =
     let d = g.D.SectorDisk.disk in

@@ -14,7 +14,7 @@ use Rattle.iol_run.proofs.Failures.{trace_tells}
 use Rattle.iol_run.proofs.Traces.{trace_of}
 use Rattle.iol_run.proofs.schedule.run_schedule.Goals as goal
 
--- a fault of a run that was begun is want of memory
+-- the fault of a run that was begun is out of memory
 pub returns-in-Ok-new-clause-cause : goal.returns-in-Ok-new-clause-cause
 returns-in-Ok-new-clause-cause g c =
     let disk = g.D.SectorDisk.disk in
@@ -65,7 +65,7 @@ returns-in-Ok-new-clause-run g c =
     c.carry_out.ensures.run
     (trace_tells c.carry_out.result d (d c.args.disk) (d journal.disk) c.in-Ok.ensures.makes c.carry_out.ensures.failures)
 
--- the journal that was found has another count of ports
+-- the journal that was found has another number of ports
 pub returns-then-len-from-clause-cause : goal.returns-then-len-from-clause-cause
 returns-then-len-from-clause-cause g c = λ h. (c.in-Ok.journal.standing, c.in-Ok.ensures.found h, search rules)
 

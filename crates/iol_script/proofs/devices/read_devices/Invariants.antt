@@ -3,7 +3,7 @@ use Rattle.toml.specs.View.{items_view}
 use Rattle.iol_script.specs.Devices.{devices_of, said_devices}
 use Rattle.iol_script.proofs.devices.read_devices.Given as goal
 
--- the values say the devices so far, and then those of the values that are left
+-- the values give the devices so far, and then those of the remaining values
 abbrev pub invariant-loop-value : goal.invariant-loop-value
 invariant-loop-value l =
     devices_of (items_view l.values)

@@ -12,7 +12,7 @@ blank zero place = omega arith
 blank (suc count) zero = omega arith
 blank (suc count) (suc place) = blank count place
 
--- a text of spaces is judged, if it is short
+-- a short text of spaces may be a script
 is_text : (count : ℕ) → count ≤ SCRIPT_OCTETS → IsText (blanks count)
 is_text count short = record {
   short = let long = length-replicate {A = ℕ} count 0x20 in omega (arith, long);

@@ -13,14 +13,14 @@ use Rattle.iol_script.proofs.fail.number_in.Goals as goal
 numerals : IsNumeralModel (λ ds. all_ascii_digits ds ≡ true) (digits_value 10)
 numerals = numerals_by_value _ tells_all_ascii_digits
 
--- a number that may be the one that fails
+-- a number in range passes the test
 small : (n : ℕ) → n ≤ LAST_FAILING_CALL → (if nat_le n LAST_FAILING_CALL then Some n else None) ≡ Some n
 small n low = grind (arith, nat_tests)
 
 large : (n : ℕ) → LAST_FAILING_CALL < n → (if nat_le n LAST_FAILING_CALL then Some n else None) ≡ None
 large n high = grind (arith, nat_tests)
 
--- a text that begins with a digit is not empty, and begins with no plus
+-- a text that begins with a digit of 1 to 9 is not empty, and does not begin with a plus
 begins : (text : List ℕ) → has_first_digit text ≡ true → (0 < length text) × (get_or text 0 0 ≢ 43)
 begins [] is = absurd (cc)
 begins (first ∷ others) is = (omega arith, not_plus first is)

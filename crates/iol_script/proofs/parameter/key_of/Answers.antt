@@ -4,7 +4,7 @@ use Rattle.toml.specs.declared.value.Value.{Value}
 use Rattle.iol_script.specs.Parameter.{key_of_items}
 use Rattle.iol_script.proofs.parameter.key_of.Goals as goal
 
--- fewer than two values say no key, and neither do more
+-- fewer than two values are not a key, and neither are more
 too_few : (values : List Value) → length values < 2 → key_of_items (items_view values) ≡ None
 too_few [] few = refl
 too_few (first ∷ []) few = refl

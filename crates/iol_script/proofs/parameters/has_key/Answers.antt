@@ -9,7 +9,7 @@ use Rattle.iol_script.specs.Parameters.{entries_of}
 use Rattle.iol_script.specs.declared.parameter.Parameter.{Parameter}
 use Rattle.iol_script.proofs.parameters.has_key.Goals as goal
 
--- a search through parameters is one through their keys
+-- a search through parameters is a search through their keys
 among_the_keys : (key : Key) (parameters : List Parameter)
     → list_any (λ (parameter : Parameter). same_key key parameter.key) parameters
     ≡ list_any (same_key key) (keys_of (entries_of parameters))

@@ -6,13 +6,13 @@ use Rattle.iol_script.specs.Parameter.{parameter_of}
 use Rattle.iol_script.specs.Parameters.{parameters_of}
 use Rattle.iol_script.proofs.parameters.parameters_in.Goals as goal
 
--- where the others say none, all of them say none
+-- if the others give no parameters, all of them together give none
 none_before : (first : Option Entry) (others : Option (List Entry)) → others ≡ None
     → option_and_then (λ parameter. option_map (λ parameters. parameter ∷ parameters) others) first ≡ None
 none_before None others none = refl
 none_before (Some parameter) others none = rw none refl
 
--- keys and octets that are not equal in number say no parameters
+-- keys and octets that are not equal in number give no parameters
 parameters_of-unequal : (keys values : List Value) → length keys ≢ length values
     → parameters_of (items_view keys) (items_view values) ≡ None
 parameters_of-unequal [] [] unequal = absurd (unequal refl)

@@ -3,7 +3,7 @@ use Rattle.toml.specs.View.{items_view}
 use Rattle.iol_script.specs.Parameters.{parameters_of, entries_of}
 use Rattle.iol_script.proofs.parameters.read_parameters.Given as goal
 
--- the keys and octets say the parameters so far, and then those of the keys and octets that are left
+-- the keys and octets give the parameters so far, and then those of the remaining keys and octets
 abbrev pub invariant-loop-place : goal.invariant-loop-place
 invariant-loop-place l =
     parameters_of (items_view l.keys) (items_view l.values)

@@ -4,7 +4,7 @@ use Rattle.iol_script.specs.Table.{is_among, has_only_keys}
 use Rattle.toml.specs.View.{table_view}
 use Rattle.iol_script.proofs.table.has_only_keys.Given as goal
 
--- the keys that are left decide
+-- the result depends only on the remaining keys
 abbrev pub invariant-loop-key : goal.invariant-loop-key
 invariant-loop-key l =
     let listed = map (λ key. key.now) l.keys in

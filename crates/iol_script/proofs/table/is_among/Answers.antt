@@ -4,7 +4,7 @@ use Rattle.std.specs.Str.{bytes_eq}
 use Rattle.iol_script.specs.Table.{is_among}
 use Rattle.iol_script.proofs.table.is_among.Goals as goal
 
--- a search through references is one through what they point to
+-- a search through references is a search through what they point to
 among_what_is_pointed_to : (keys : List (Bor (List ℕ))) (key : List ℕ)
     → list_any (λ other. bytes_eq other.now key) keys ≡ is_among (map (λ other. other.now) keys) key
 among_what_is_pointed_to [] key = refl

@@ -3,7 +3,8 @@ use Rattle.iol_transfer.specs.List.{reading_of, begins_with_key}
 use Rattle.iol_transfer.proofs.Readings.{read_behind}
 use Rattle.iol_transfer.proofs.reading.read_index_list.Given as goal
 
--- what is left is read behind the keys so far; a key is met in it only where one was met at first
+-- the rest is read after the keys so far; the rest begins with a key only if the octets begin with
+-- one
 abbrev pub invariant-loop-rest : goal.invariant-loop-rest
 invariant-loop-rest l = record {
   reads : reading_of l.octets ≡ read_behind l.keys.items l.rest;

@@ -13,7 +13,7 @@ returns-in-Ok-clause-text g c =
     IfOk-weaker c.json_of.result _ (λ text. TellsStateAsJson (g.D.SectorDisk.disk c.args.disk) (string_bytes text))
     (λ text reads. (recovered.number, recovered.state, search rules, reads)) c.json_of.ensures.text
 
--- memory may run out over any disk
+-- memory may run out with any disk
 pub returns-in-Ok-clause-cause : goal.returns-in-Ok-clause-cause
 returns-in-Ok-clause-cause g c =
     let d = g.D.SectorDisk.disk c.args.disk in

@@ -6,7 +6,7 @@ use Rattle.iol_view.specs.Map.{line_text, lines_text}
 use Rattle.iol_view.specs.declared.map_lines.Line.{Line}
 use Rattle.iol_view.proofs.map_text.write_lines.Goals as goal
 
--- the lines up to a place, and the one at it
+-- the lines before a place, and then the line at it
 lines_next : (lines : List Line) (i : ℕ) (item : Line) → i < length lines → get_or lines i item ≡ item
     → lines_text (take i lines) ++ (line_text item ++ codes "\n") ≡ lines_text (take (i + 1) lines)
 lines_next lines i item within is =

@@ -50,7 +50,7 @@ returns-in-Err-clause-run g c r run =
     (run_of_same_meaning (d c.args.self.disk) (d c.make_stage.new.disk) s s r refl refl (returns-in-Err-clause-any_moment g c run.0)
     run.1).0
 
--- ---- further calls are owed
+-- ---- more calls are needed
 
 pub next_stage-requires-clause-begun : goal.next_stage-requires-clause-begun
 next_stage-requires-clause-begun g c =
@@ -72,7 +72,7 @@ moved_to-requires-clause-begun g c =
           (l : Layout). l.slots) c.renewed_layout-layout.ensures,
     )
 
--- the stage that comes next
+-- the next stage
 next_told : (g : Given.Over) (c : goal.After-moved_to g)
     → stage_behind (target (stands c.self.inside.parts) (log_of c.self.inside.begun))
     (commands_owed c.self.inside.begun.owed.items) c.self.inside.begun.stage ≡ Some c.in-Some.stage
@@ -81,7 +81,7 @@ next_told g c =
     sym (c.next_stage.ensures (g.D.SectorDisk.disk w.disk) (stands w.parts) c.self.invariant.1
     (c.slots-slots.ensures.value ∙ ap (λ (l : Layout). l.slots) c.renewed_layout-layout.ensures)) ∙ c.in-Some.is
 
--- what contracts see of the checkpoint then
+-- the checkpoint after the call, as contracts see it
 view_told : (g : Given.Over) (c : goal.After-moved_to g) → view_of c.moved_to.result ≡ moved_view c.self.inside.begun c.in-Some.stage
 view_told g c =
     let moved = c.moved_to.ensures in
@@ -159,7 +159,7 @@ returns-in-Some-clause-run g c r run =
       run.2,
     )
 
--- ---- it is done
+-- ---- the checkpoint is done
 
 pub at_rest-requires-clause-resting : goal.at_rest-requires-clause-resting
 at_rest-requires-clause-resting g c =
@@ -196,7 +196,7 @@ returns-in-None-clause-any_moment g c =
     (moment_of g.D.SectorDisk.disk c.make_stage.new.disk c.make_stage.result c.self.view_is c.self.invariant.1.drafted
     (c.make_stage.ensures w.parts.number w.parts.state c.self.invariant.1))
 
--- the journal stands in the other area
+-- the journal is in the other area
 stands_in_other : (g : Given.Over) (c : goal.After-drop-begun-in-None-2 g) → c.at_rest.result.standing
     ≡ target (stands c.self.inside.parts) (log_of c.self.inside.begun)
 stands_in_other g c =
@@ -210,7 +210,7 @@ stands_in_other g c =
     ∙ stands_there d s w.begun is none c.renewed_layout-layout.result c.other.result c.renewed_layout-layout.ensures
     c.other.ensures
 
--- where no batch is owed
+-- if no batch is owed
 stands_at_end : (g : Given.Over) (c : goal.After-drop-begun-in-None-2 g) → c.at_rest.result.standing
     ≡ with_batches (target (stands c.self.inside.parts) (log_of c.self.inside.begun))
     (commands_owed c.self.inside.begun.owed.items)

@@ -1,4 +1,4 @@
--- A history owns nothing, so it may go to another thread.
+-- A history owns nothing, so it may be sent to another thread.
 use denote.Param.Send.{IsSend, owning_send}
 use Rattle.iol_journal.specs.contracts.history.History.{the_row, the_type}
 

@@ -38,7 +38,7 @@ use Rattle.iol_journal.proofs.history.History.read_off.Code as code
 abbrev none : Val
 none = vstruct vnil
 
--- a struct of no octets needs none
+-- a struct of no octets needs no memory
 none_made : {M : Type 1} {𝓤 : Ura M} {𝓛 : Logic 𝓤} {K : Type 0} {Γ : List (Item 𝓤)} {G : Goal 𝓤 𝓛.H} → K
     → Step K 𝓛 (‵ ((Struct (record { name = []; args = []; types = []; fields = [] })).own_val tt (none ∷ [])) ∷ Γ) G Γ G
 none_made t = step (λ s.

@@ -36,7 +36,7 @@ returns-in-Ok-clause-underway g c rest =
     subst (λ (v : WritingView g.row.D.Denot). IsUnderway g.D.SectorDisk.disk v) (sym is)
     (λ h. (rest h, λ j below. absurd (omega (arith, below))))) c.begin_planned.ensures.begun
 
--- two facts of what is answered
+-- two facts of the result
 both : {A E : Type 0} (r : Result A E) (P Q R : A → Type 0) → ((x : A) → P x → Q x → R x) → IfOk r P → IfOk r Q → IfOk r R
 both (Ok x) P Q R f p q = f x p q
 both (Err e) P Q R f p q = tt

@@ -33,7 +33,7 @@ is_new g c =
       begun = begun;
     }) c.in-Ok.ensures.view
 
--- one that is paused is gone on with
+-- a paused checkpoint is continued
 goes_on : (d : Disk) (s : Standing) (begun : Option BegunView) (first : BegunView) → is_some begun ≡ true → IsPaused d s begun
     → IsDrawnUp d s (unwrap_or begun first)
 goes_on d s None first some paused = absurd cc

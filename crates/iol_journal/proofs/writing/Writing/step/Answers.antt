@@ -137,7 +137,7 @@ returns-in-None-clause-any_moment g c =
     (moment_of g.D.SectorDisk.disk c.make.new.disk c.make.result c.self.view_is c.self.invariant.0 c.self.invariant.1
     (c.make.ensures.makes w.parts.number w.parts.state))
 
--- the journal behind the last call stands behind the batch
+-- the journal after the last call is at the number and state after the batch
 standing_after : (g : Given.Over) (c : goal.After-at_rest g)
     → c.at_rest.result.standing
     ≡ with_batch (stands c.self.inside.parts) (values c.self.inside.batch.commands.items)
@@ -160,7 +160,7 @@ returns-in-None-clause-durable g c u =
     (c.in_default.ensures.makes w.parts.number w.parts.state) under in
     rest_means _ _ _ _ _ _ (ap d c.at_rest.ensures.disk) (standing_after g c) c.at_rest.ensures.idle rests
 
--- ---- a checkpoint that is paused
+-- ---- a paused checkpoint
 
 pub returns-in-Some-clause-beside : goal.returns-in-Some-clause-beside
 returns-in-Some-clause-beside g c b =

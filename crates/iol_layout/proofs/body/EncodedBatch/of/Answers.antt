@@ -9,7 +9,7 @@ use Rattle.iol_layout.proofs.Bodies.{length-body}
 use Rattle.iol_layout.proofs.Paddings.{padded-front}
 use Rattle.iol_layout.proofs.body.EncodedBatch.of.Goals as goal
 
--- how many commands and octets of records the head tells of
+-- the number of commands and of octets of records that the head says
 counted : (c : goal.After-drop-records-2) → length (values c.args.commands.now) ≡ length c.args.commands.now
 counted c = length-map c.args.commands.now value_of
 
@@ -39,7 +39,7 @@ pushed c =
     ∙ ap (λ (os : List ℕ). head_octets c.args.epoch c.args.first count (length (records_of (values c.args.commands.now))) ++ os)
     c.in_ok-records.ensures.records
 
--- the octets that were pushed, and zeros behind them
+-- the octets that were pushed, with zeros after them
 spelled : (c : goal.After-drop-records-2) → c.resize.new.self.items ≡ body_octets c.args.epoch c.args.first (values c.args.commands.now)
 unfolding body_octets
 spelled c =
@@ -60,7 +60,7 @@ spelled c =
 pub returns-clause-octets : goal.returns-clause-octets
 returns-clause-octets c = spelled c
 
--- how many sectors were reached
+-- the number of sectors that were reached
 reached : (c : goal.After-drop-records-2) → length (body_octets c.args.epoch c.args.first (values c.args.commands.now))
     ≡ SECTOR_OCTETS * c.div_ceil-sectors.result
 reached c = omega (arith, length-body c.args.epoch c.args.first (values c.args.commands.now), c.div_ceil-sectors.ensures, sized c)

@@ -14,7 +14,7 @@ use Rattle.iol_run.proofs.Telling.{step_told}
 use Rattle.iol_run.proofs.run.Run.step.Given as given
 use Rattle.iol_run.proofs.run.Run.step.Goals as goal
 
--- what was told before, and what the step tells
+-- the events before, and those of the step
 noted : (g : given.Over) (c : goal.After-note-2 g)
     → map stamp_of c.note-2.new.events.items
     ≡ map stamp_of c.self.inside.events.items

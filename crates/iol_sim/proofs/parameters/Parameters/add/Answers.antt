@@ -10,12 +10,12 @@ use Rattle.iol_sim.proofs.ParameterLemmas.{may_be_added, Grown, grown}
 use Rattle.iol_sim.proofs.parameters.Parameters.add.Goals as goal
 use Rattle.iol_sim.proofs.parameters.Parameters.add.Goals.{in-Ok, in-Err}
 
--- nothing refuses the parameter
+-- the parameter is not refused
 unrefused : (c : goal.Joined-insert) → add_fault (entries_of c.self.inside.entries.entries) c.args.key c.args.octets.now ≡ None
 unrefused c = ap (λ (entries : List Entry). add_fault entries c.args.key c.args.octets.now) c.self.view_is
     ∙ sym c.fault.ensures.fault ∙ c.in_default.is
 
--- what the insertion makes of the parameters
+-- the parameters after the insertion
 inserted : (c : goal.Joined-insert) → c.insert.new.self.entries
     ≡ insert_entry same_key c.self.inside.entries.entries c.args.key c.data_of.result
     → Grown c.self.inside.entries.entries c.insert.new.self.entries c.args.key c.args.octets.now

@@ -21,7 +21,7 @@ inserted c made =
     ap entries_of made ∙ entries_of-written c.self.inside.entries.entries c.args.key c.data_of.result
     ∙ ap (insert_entry same_key (entries_of c.self.inside.entries.entries) c.args.key) c.data_of.ensures
 
--- so the map finds it
+-- therefore the map finds it
 present : (c : goal.Joined-insert) → is_some (lookup (same_key c.args.key) c.self.inside.entries.entries) ≡ false → ⊥
 present c none = let both : true ≡ false = sym (there c)
     ∙ is_some-entries_of (same_key c.args.key) c.self.inside.entries.entries ∙ none in cc

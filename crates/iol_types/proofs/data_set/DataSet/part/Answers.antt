@@ -4,7 +4,7 @@ use Rattle.std.specs.Borrow.{Bor}
 use Rattle.iol_types.proofs.PartLemmas.{IsShort, concat-parts_of, short-parts_of}
 use Rattle.iol_types.proofs.data_set.DataSet.part.Goals as goal
 
--- what holds of octets holds of a reference to them
+-- a claim about octets holds of a reference to them
 lent : (part : Option (Bor (List ℕ))) → IfSome (option_copied part) IsShort → IfSome part (λ octets. IsShort octets.now)
 lent None is = is
 lent (Some octets) is = is

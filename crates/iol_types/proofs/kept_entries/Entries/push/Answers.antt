@@ -13,12 +13,12 @@ use Rattle.iol_types.proofs.Entries.{may_be_added}
 use Rattle.iol_types.proofs.Kept.{none-entries_of, Pushed, pushed}
 use Rattle.iol_types.proofs.kept_entries.Entries.push.Goals as goal
 
--- what is said of success, of what succeeded
+-- the claim about success holds of a result that succeeded
 said : {T E P : Type 0} (r : Result T E) → is_ok r ≡ true → OnOk r P → P
 said (Ok x) ok holds = holds
 said (Err e) ok holds = absurd cc
 
--- what the text and the key make of the entries
+-- the entries after the text and the key were added
 made : (c : goal.After-self-1)
     → Pushed c.push.new.self c.insert.new.self.entries (c.self.inside.octets + (ENTRY_HEAD_OCTETS + length c.args.octets.now))
     (entries_of c.self.inside.parts c.self.inside.places.entries ++ (c.args.key, c.args.octets.now) ∷ [])

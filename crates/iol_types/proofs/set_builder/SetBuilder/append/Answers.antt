@@ -3,7 +3,7 @@ use Rattle.iol_types.specs.DataSet.{Entry, AreEntries, add_fault}
 use Rattle.iol_types.proofs.Entries.{may_be_added, one-more}
 use Rattle.iol_types.proofs.set_builder.SetBuilder.append.Goals as goal
 
--- entries stay such where one comes to them that may, and where none does
+-- entries stay valid if an allowed one is added, and if none is
 either : {T E : Type 0} (r : Result T E) (old more new : List Entry) → OnOk r (new ≡ more) → OnErr r (new ≡ old) → AreEntries old
     → AreEntries more → AreEntries new
 either (Ok done) old more new pushed kept are behind = subst AreEntries (sym pushed) behind
