@@ -51,12 +51,14 @@ def wrong_answers(asked, printed, is_whole=True):
 
 
 def wrong_order(asked, printed, ports):
-    """The requests of a port that the master has are answered in their order, and its receipts rise."""
+    """The requests of a port that the master has are answered in their order, and its receipts rise. One for which there is no memory does
+    not wait for those before it."""
     numbers = [line["receipt"] for line in printed if "receipt" in line]
     if len(set(numbers)) < len(numbers):
         return "two receipts have one number"
     for port in range(1, ports + 1):
         own = [line for line in printed if "id" in line and asked[line["id"]] in [(do, port) for do in OF_PORTS]]
+        own = [line for line in own if line.get("refused") != "Memory"]
         ids, receipts = [line["id"] for line in own], [line["receipt"] for line in own if "receipt" in line]
         if ids != sorted(ids):
             return f"port {port} is answered out of order: {ids}"
