@@ -102,6 +102,12 @@ def exchanges_in(log):
     return [(kind, request, (answered or "").removeprefix(f"{kind} ")) for (kind, _, request), answered in asked]
 
 
+def is_look(exchange):
+    """Whether an exchange only looks at a device: its page, or a read of State_Property or of Parameter_Checksum. A driver that answers
+    late while its master ends is lost, and is looked at again before the port settles."""
+    return exchange[0] == "page" or exchange[1] in ("A4 03 02 A5", "A4 03 04 A3")
+
+
 def follow_example(folder, files, example):
     """The drivers of an example's devices, one after another, are asked what `run` prints for the same devices and steps. Each time
     that a driver ends its terminal hangs up."""
@@ -129,12 +135,15 @@ def follow_example(folder, files, example):
                 place = master.wait_status(1, "lost", begin=place, seconds=LOST_SECONDS)
                 driver = start(device)
                 place = master.wait_status(1, "ready", begin=place)
+            played = len(read_log(log))
             master.end_well()
     finally:
         driver.end()
-    heard, wanted = without_watching(exchanges_in(read_log(log))), without_watching(trace)
-    if heard != wanted:
-        raise Different(f"the drivers heard {heard}, and in the trace is {wanted}")
+    heard, wanted = exchanges_in(read_log(log)), without_watching(trace)
+    if without_watching(heard[:played]) != wanted:
+        raise Different(f"the drivers heard {heard[:played]}, and in the trace is {wanted}")
+    if not all(is_look(exchange) for exchange in heard[played:]):
+        raise Different(f"at the end the driver heard {heard[played:]}")
     if ran("show", image).split("\n", 1)[1] != ran("run", script).split("\nrecovered ", 1)[1].split("\n", 1)[1]:
         raise Different(f"it leaves {ran('show', image)}")
 
