@@ -1,6 +1,5 @@
 -- The tasks of a run that the steps of a script ask for.
 use Rattle.std.specs.Prelude.{List, map}
-use Rattle.iol_types.specs.declared.command.Change.TheVariants as change
 use Rattle.iol_run.specs.declared.task.Task.{Task}
 use Rattle.iol_run.specs.declared.task.Task.TheVariants.{Client, Port, Flush, Drain}
 use Rattle.iol_script.specs.declared.step.Step as script
@@ -8,9 +7,7 @@ use Rattle.iol_script.specs.declared.step.Step.TheVariants as said
 
 -- the task of a run that a step of a script asks for (format, Scripts)
 abbrev pub task_of : script.Step → Task
-task_of (said.Configure port config) = Client (change.Configure port config)
-task_of (said.Clear port) = Client (change.Clear port)
-task_of (said.Rollback port) = Client (change.Rollback port)
+task_of (said.Ask change) = Client change
 task_of (said.Port port times) = Port port times
 task_of (said.Flush times) = Flush times
 task_of said.Drain = Drain

@@ -4,7 +4,6 @@ ghost use Rattle.iol_commands.specs.Steps.{tasks_of};
 
 use iol_run::Task;
 use iol_script::Step as ScriptStep;
-use iol_types::Change;
 use std::alloc::{AllocError, Global};
 
 // The schedule of a script: the tasks of its steps, in their order.
@@ -25,12 +24,7 @@ fn add_tasks(tasks: &mut Vec<Task>, steps: &[ScriptStep]) -> Result<(), AllocErr
 {
     for step in steps {
         let task: Task = match *step {
-            ScriptStep::Configure { port, config } => Task::Client(Change::Configure {
-                port,
-                config,
-            }),
-            ScriptStep::Clear { port } => Task::Client(Change::Clear { port }),
-            ScriptStep::Rollback { port } => Task::Client(Change::Rollback { port }),
+            ScriptStep::Ask(change) => Task::Client(change),
             ScriptStep::Port { port, times } => Task::Port { port, times },
             ScriptStep::Flush { times } => Task::Flush { times },
             ScriptStep::Drain => Task::Drain,

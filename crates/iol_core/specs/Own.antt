@@ -1,6 +1,6 @@
 -- A port's own events.
 use Rattle.std.specs.Prelude.{ℕ, nat_eq, if◌then◌else◌, List, [], ◌∷◌, ◌++◌, fold}
-use Rattle.iol_types.specs.Command.{CommandValue, Configure, Clear, Store, Rollback}
+use Rattle.iol_types.specs.Command.{CommandValue, Store}
 use Rattle.iol_core.specs.Events.{Event, Accepted, Refused, Page, Exchange, Lost, Attended, Changed, Acknowledged, DiskFailed, Stamp}
 use Rattle.iol_core.specs.Statuses.{Status, Off}
 
@@ -10,10 +10,8 @@ at_port port told it = if nat_eq told port then it ∷ [] else []
 
 -- an accepted command, if it is a Store for this port: clients cannot submit a Store (own)
 abbrev pub own_command : ℕ → ℕ → CommandValue → List Event
-own_command port number (Configure told config) = []
-own_command port number (Clear told) = []
-own_command port number (Rollback told) = []
 own_command port number (Store told revision set) = at_port port told (Accepted number (Store told revision set))
+own_command port number command = []
 
 -- an event, if it is this port's own: the page of its device, an exchange with the device or its loss, the port's work, an
 -- accepted set of the port, or its status (own)

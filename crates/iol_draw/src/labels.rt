@@ -1,7 +1,7 @@
 //! The labels of a script's ports.
 
 use iol_script::Step;
-use iol_types::{Label, PORTS, PortId};
+use iol_types::{Change, Label, PORTS, PortId};
 
 // The number of port numbers, with 0, which is that of no port.
 pub(crate) const NUMBERS: usize = PORTS as usize + 1;
@@ -17,7 +17,7 @@ impl Labels {
     pub(crate) fn of(steps: &[Step]) -> Labels {
         let mut labels = [Label::empty(); NUMBERS];
         for step in steps {
-            if let Step::Configure { port, config } = step {
+            if let Step::Ask(Change::Configure { port, config }) = step {
                 labels[usize::from(port.number())] = config.label;
             }
         }

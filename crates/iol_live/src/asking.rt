@@ -219,12 +219,7 @@ fn number_of<F: Name, R: Wait>(
     client: &mut Client<F>,
     change: Change,
 ) -> Result<u64, CallFault> {
-    let answer = match change {
-        Change::Configure { port, config } => client.configure(rt, port, config),
-        Change::Clear { port } => client.clear(rt, port),
-        Change::Rollback { port } => client.rollback(rt, port),
-    };
-    match answer {
+    match client.ask(rt, change) {
         Ok(receipt) => Ok(receipt.number),
         Err(fault) => Err(fault),
     }

@@ -161,8 +161,11 @@ impl<F: Name> Client<F> {
         self.ask(rt, Change::Rollback { port })
     }
 
-    // Requests a change, and waits until it is durable.
-    fn ask<R: Wait>(&mut self, rt: &R, change: Change) -> Result<Receipt<F>, CallFault>
+    /// Requests a change, and waits until it is durable, as `configure`, `clear` and `rollback` do. The client has then seen the command.
+    ///
+    /// # Errors
+    /// The errors are those of `configure`.
+    pub fn ask<R: Wait>(&mut self, rt: &R, change: Change) -> Result<Receipt<F>, CallFault>
         ensures kept { IsPrefix self.old self.new }
         ensures receipt { IfOk result (IsReceiptFor F.front.start change self.old self.new) }
         ensures refused { IfErr result (λ fault. (self.new ≡ self.old)

@@ -8,7 +8,7 @@ use iol_run::{RunFault, Stamped, Task, Trace, run_schedule};
 use iol_script::Step;
 use iol_sim::SimLink;
 use iol_texts::Recovered;
-use iol_types::{Change, MasterState};
+use iol_types::MasterState;
 use std::alloc::{AllocError, Global};
 
 /// Makes the steps of a script, and prints how they ended and what the disk then holds.
@@ -50,9 +50,7 @@ fn tasks_of(alloc: Global, steps: &[Step]) -> Result<Vec<Task>, AllocError> {
     let mut tasks = Vec::with_capacity(alloc, steps.len())?;
     for step in steps {
         tasks.push(match *step {
-            Step::Configure { port, config } => Task::Client(Change::Configure { port, config }),
-            Step::Clear { port } => Task::Client(Change::Clear { port }),
-            Step::Rollback { port } => Task::Client(Change::Rollback { port }),
+            Step::Ask(change) => Task::Client(change),
             Step::Port { port, times } => Task::Port { port, times },
             Step::Flush { times } => Task::Flush { times },
             Step::Drain => Task::Drain,

@@ -9,7 +9,7 @@ use Rattle.iol_types.specs.Examples.{example_set}
 use Rattle.iol_script.specs.Device.{SaidDevice}
 use Rattle.iol_script.specs.LiveScript.{SaidLive}
 use Rattle.iol_script.specs.Script.{Said}
-use Rattle.iol_script.specs.declared.step.Step.TheVariants.{Configure, Clear, Port, Flush, Drain}
+use Rattle.iol_script.specs.declared.step.Step.TheVariants.{Ask, Port, Flush, Drain}
 use Rattle.iol_disk.specs.declared.fault.DiskFault.TheVariants.{Write}
 use Rattle.iol_disk.specs.declared.pick.Pick.TheVariants.{New, Zero}
 
@@ -95,8 +95,8 @@ full_script = record {
   fail = Some (record { kind = Write; number = 7 });
   devices = full_device ∷ [];
   steps =
-      Configure 2 (record { mode = IolManual; validation = Restore; vendor = 502; device = 8; label = codes "A & B" }) ∷ Clear 3 ∷ Port 2 6
-      ∷ Flush 9 ∷ Drain ∷ [];
+      Ask (change.Configure 2 (record { mode = IolManual; validation = Restore; vendor = 502; device = 8; label = codes "A & B" }))
+      ∷ Ask (change.Clear 3) ∷ Port 2 6 ∷ Flush 9 ∷ Drain ∷ [];
   keep = Zero;
 }
 

@@ -3,7 +3,6 @@ use Rattle.std.specs.Prelude.{ℕ, if◌then◌else◌, List, [], ◌∷◌, cod
 use Rattle.toml.specs.Data.{Data, Items, no_items, item, Members}
 use Rattle.toml.specs.Parse.{parse_document}
 use Rattle.iol_types.specs.declared.command.Change.{Change}
-use Rattle.iol_types.specs.declared.command.Change.TheVariants as change
 use Rattle.iol_script.specs.Device.{SaidDevice}
 use Rattle.iol_script.specs.Devices.{devices_of, said_devices}
 use Rattle.iol_script.specs.Script.{script_keys}
@@ -11,7 +10,7 @@ use Rattle.iol_script.specs.Step.{step_in, step_of}
 use Rattle.iol_script.specs.Table.{has_only_keys, values_at}
 use Rattle.iol_script.specs.declared.live_script.LiveScript.{LiveScript}
 use Rattle.iol_script.specs.declared.step.Step.{Step}
-use Rattle.iol_script.specs.declared.step.Step.TheVariants.{Configure, Clear, Rollback, Port, Flush, Drain}
+use Rattle.iol_script.specs.declared.step.Step.TheVariants.{Ask, Port, Flush, Drain}
 
 -- what such a script says: the devices, and what clients ask for (format, Scripts)
 pub record SaidLive : Type 0 where
@@ -20,9 +19,7 @@ pub record SaidLive : Type 0 where
 
 -- what a step asks for, if it is a client's; steps of ports and of the flusher are none (format, Scripts)
 abbrev pub change_by : Step → Option Change
-change_by (Configure port config) = Some (change.Configure port config)
-change_by (Clear port) = Some (change.Clear port)
-change_by (Rollback port) = Some (change.Rollback port)
+change_by (Ask change) = Some change
 change_by (Port port times) = None
 change_by (Flush times) = None
 change_by Drain = None

@@ -13,7 +13,7 @@ use Rattle.iol_script.specs.Steps.{before_stop, steps_of}
 use Rattle.iol_script.specs.declared.script.Script.{Script}
 use Rattle.iol_script.specs.declared.script.TheConstants.{SCRIPT_OCTETS}
 use Rattle.iol_script.specs.declared.step.Step.{Step}
-use Rattle.iol_script.specs.declared.step.Step.TheVariants.{Configure, Clear, Rollback, Port, Flush, Drain}
+use Rattle.iol_script.specs.declared.step.Step.TheVariants.{Ask, Port, Flush, Drain}
 use Rattle.iol_disk.specs.declared.pick.Pick.{Pick}
 
 -- what a script says: two numbers, the disk call that fails, the devices, the steps before the stop, and what the stop
@@ -84,9 +84,7 @@ is_port_of (negsuc n) port = false
 -- comes (format, Scripts)
 abbrev pub step_fits : ℤ → Step → Bool
 step_fits ports (Port port times) = is_port_of ports port
-step_fits ports (Configure port config) = true
-step_fits ports (Clear port) = true
-step_fits ports (Rollback port) = true
+step_fits ports (Ask change) = true
 step_fits ports (Flush times) = true
 step_fits ports Drain = true
 

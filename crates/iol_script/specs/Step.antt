@@ -7,10 +7,12 @@ use Rattle.iol_types.specs.Label.{is_label}
 use Rattle.iol_types.specs.declared.config.PortConfig.{PortConfig}
 use Rattle.iol_types.specs.declared.config.PortMode.{PortMode}
 use Rattle.iol_types.specs.declared.config.Validation.{Validation}
+use Rattle.iol_types.specs.declared.command.Change.{Change}
+use Rattle.iol_types.specs.declared.command.Change.TheVariants as change
 use Rattle.iol_script.specs.Number.{number_below, port_in, vendor_in, device_in, times_in}
 use Rattle.iol_script.specs.Table.{text_at, has_only_keys}
 use Rattle.iol_script.specs.declared.step.Step.{Step}
-use Rattle.iol_script.specs.declared.step.Step.TheVariants.{Configure, Clear, Rollback, Port, Flush, Drain}
+use Rattle.iol_script.specs.declared.step.Step.TheVariants.{Ask, Port, Flush, Drain}
 
 -- the mode and the validation of a port (format, Scripts)
 abbrev pub mode_in : Members → Option PortMode
@@ -61,19 +63,28 @@ flush_keys = codes "do" ∷ codes "times" ∷ []
 abbrev pub drain_keys : List (List ℕ)
 drain_keys = codes "do" ∷ []
 
--- the step in a table of this kind (format, Scripts)
-abbrev pub configure_in : Members → Option Step
+-- the change that a client requests, in a table of this kind (format, Scripts)
+abbrev pub configure_in : Members → Option Change
 configure_in table =
     if has_only_keys configure_keys table then
-    option_and_then (λ port. option_map (λ config. Configure port config) (config_in table)) (port_in table)
+    option_and_then (λ port. option_map (λ config. change.Configure port config) (config_in table)) (port_in table)
     else None
 
-abbrev pub clear_in : Members → Option Step
-clear_in table = if has_only_keys clear_keys table then option_map Clear (port_in table) else None
+abbrev pub clear_in : Members → Option Change
+clear_in table = if has_only_keys clear_keys table then option_map change.Clear (port_in table) else None
 
-abbrev pub rollback_in : Members → Option Step
-rollback_in table = if has_only_keys rollback_keys table then option_map Rollback (port_in table) else None
+abbrev pub rollback_in : Members → Option Change
+rollback_in table = if has_only_keys rollback_keys table then option_map change.Rollback (port_in table) else None
 
+-- the change that a client requests, by the kind of its table (format, Scripts)
+abbrev pub change_of_kind : List ℕ → Members → Option Change
+change_of_kind kind table =
+    if bytes_eq kind (codes "configure") then configure_in table
+    else if bytes_eq kind (codes "clear") then clear_in table
+    else if bytes_eq kind (codes "rollback") then rollback_in table
+    else None
+
+-- another step, in a table of this kind (format, Scripts)
 abbrev pub port_step_in : Members → Option Step
 port_step_in table =
     if has_only_keys port_keys table then
@@ -86,16 +97,13 @@ flush_in table = if has_only_keys flush_keys table then option_map Flush (times_
 abbrev pub drain_in : Members → Option Step
 drain_in table = if has_only_keys drain_keys table then Some Drain else None
 
--- the step in a table, by its kind (format, Scripts)
+-- the step in a table, by its kind; what no other step is, a client requests (format, Scripts)
 abbrev pub step_of_kind : List ℕ → Members → Option Step
 step_of_kind kind table =
-    if bytes_eq kind (codes "configure") then configure_in table
-    else if bytes_eq kind (codes "clear") then clear_in table
-    else if bytes_eq kind (codes "rollback") then rollback_in table
-    else if bytes_eq kind (codes "port") then port_step_in table
+    if bytes_eq kind (codes "port") then port_step_in table
     else if bytes_eq kind (codes "flush") then flush_in table
     else if bytes_eq kind (codes "drain") then drain_in table
-    else None
+    else option_map Ask (change_of_kind kind table)
 
 -- the step in a table, by its kind at the key `do` (format, Scripts)
 abbrev pub step_in : Members → Option Step

@@ -88,9 +88,7 @@ pub(crate) fn change_by(step: Step) -> Option<Change>
     ensures { result ≡ change_by step }
 {
     match step {
-        Step::Configure { port, config } => Some(Change::Configure { port, config }),
-        Step::Clear { port } => Some(Change::Clear { port }),
-        Step::Rollback { port } => Some(Change::Rollback { port }),
+        Step::Ask(change) => Some(change),
         _ => None,
     }
 }

@@ -1,23 +1,19 @@
 //! One step of a script.
 ghost use Rattle.std.specs.Prelude.{◌≡◌};
 ghost use Rattle.toml.specs.View.{table_view};
-ghost use Rattle.iol_script.specs.Step.{configure_in, clear_in, rollback_in, port_step_in, flush_in, drain_in, config_in, label_in};
-ghost use Rattle.iol_script.specs.Step.{mode_in, validation_in};
+ghost use Rattle.iol_script.specs.Step.{change_of_kind, configure_in, clear_in, rollback_in, port_step_in, flush_in, drain_in};
+ghost use Rattle.iol_script.specs.Step.{config_in, label_in, mode_in, validation_in};
 
 use crate::number::{device_in, octet_at, port_in, times_in, vendor_in};
 use crate::table::{has_only_keys, text_at, value_at};
-use iol_types::{Label, PortConfig, PortId, PortMode, Validation};
+use iol_types::{Change, Label, PortConfig, PortId, PortMode, Validation};
 use toml::{Table, Value};
 
 /// A step of a script, other than the stop that ends it.
 #[derive(Clone, Copy)]
 pub enum Step {
-    /// A client gives a port a configuration.
-    Configure { port: PortId, config: PortConfig },
-    /// A client deletes the parameter sets of a port.
-    Clear { port: PortId },
-    /// A client exchanges the parameter set of a port and its previous one.
-    Rollback { port: PortId },
+    /// A client requests a change.
+    Ask(Change),
     /// A port makes this many steps, 1 to [`MOST_TIMES`](crate::MOST_TIMES).
     Port { port: PortId, times: u16 },
     /// The flusher makes this many steps, 1 to [`MOST_TIMES`](crate::MOST_TIMES).
@@ -44,19 +40,29 @@ impl Step {
     pub(crate) fn in_table(table: &Table) -> Option<Step>
         ensures { result ≡ step_in (table_view table.now) }
     {
-        match text_at(table, "do")? {
-            "configure" => configure_in(table),
-            "clear" => clear_in(table),
-            "rollback" => rollback_in(table),
+        let kind = text_at(table, "do")?;
+        match kind {
             "port" => port_step_in(table),
             "flush" => flush_in(table),
             "drain" => drain_in(table),
-            _ => None,
+            _ => Some(Step::Ask(change_of_kind(kind, table)?)),
         }
     }
 }
 
-fn configure_in(table: &Table) -> Option<Step>
+// Reads the change in a table of this kind.
+fn change_of_kind(kind: &str, table: &Table) -> Option<Change>
+    ensures { result ≡ change_of_kind kind.now (table_view table.now) }
+{
+    match kind {
+        "configure" => configure_in(table),
+        "clear" => clear_in(table),
+        "rollback" => rollback_in(table),
+        _ => None,
+    }
+}
+
+fn configure_in(table: &Table) -> Option<Change>
     ensures { result ≡ configure_in (table_view table.now) }
 {
     let keys = [
@@ -71,30 +77,30 @@ fn configure_in(table: &Table) -> Option<Step>
     if !has_only_keys(table, &keys) {
         return None;
     }
-    Some(Step::Configure {
+    Some(Change::Configure {
         port: port_in(table)?,
         config: config_in(table)?,
     })
 }
 
-fn clear_in(table: &Table) -> Option<Step>
+fn clear_in(table: &Table) -> Option<Change>
     ensures { result ≡ clear_in (table_view table.now) }
 {
     if !has_only_keys(table, &["do", "port"]) {
         return None;
     }
-    Some(Step::Clear {
+    Some(Change::Clear {
         port: port_in(table)?,
     })
 }
 
-fn rollback_in(table: &Table) -> Option<Step>
+fn rollback_in(table: &Table) -> Option<Change>
     ensures { result ≡ rollback_in (table_view table.now) }
 {
     if !has_only_keys(table, &["do", "port"]) {
         return None;
     }
-    Some(Step::Rollback {
+    Some(Change::Rollback {
         port: port_in(table)?,
     })
 }

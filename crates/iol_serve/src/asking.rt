@@ -1,10 +1,8 @@
 //! The thread of a port, which carries out the requests of that port one after another.
 
-ghost use Rattle.std.specs.Prelude.{◌≡◌, ◌+◌, IfErr, IfOk, length};
+ghost use Rattle.std.specs.Prelude.{◌≡◌};
 ghost use mathlib.Core.List.{IsPrefix};
 ghost use Rattle.iol_types.specs.Command.{command_of};
-ghost use Rattle.iol_master.specs.Faults.{IsCallFault};
-ghost use Rattle.iol_master.specs.Receipts.{IsReceiptFor};
 ghost use Rattle.iol_serve.specs.Outcomes.{HasAsked, HasDone, HasRead, SaysOutcome, call_refusal, port_of, read_refusal};
 
 use crate::printing::Printer;
@@ -14,7 +12,7 @@ use crossbeam_channel::Receiver;
 use iol_answers::{Refusal, RequestAnswer};
 use iol_core::View;
 use iol_front::Name;
-use iol_master::{CallFault, Client, ReadFault, Receipt};
+use iol_master::{CallFault, Client, ReadFault};
 use iol_types::{Change, PortId};
 use std::alloc::Global;
 use std::sync::{Arc, Wait};
@@ -119,27 +117,9 @@ fn ask<F: Name, R: Wait>(rt: &R, client: &mut Client<F>, change: Change) -> Outc
     ensures kept { IsPrefix client.old client.new }
     ensures outcome { HasAsked F.front.start client.old client.new (command_of change) result }
 {
-    match receipt_for(rt, client, change) {
+    match client.ask(rt, change) {
         Ok(receipt) => Outcome::Durable(receipt.number),
         Err(fault) => Outcome::Refused(call_refusal(fault)),
-    }
-}
-
-// Requests a change, and returns its receipt.
-fn receipt_for<F: Name, R: Wait>(
-    rt: &R,
-    client: &mut Client<F>,
-    change: Change,
-) -> Result<Receipt<F>, CallFault>
-    ensures kept { IsPrefix client.old client.new }
-    ensures receipt { IfOk result (IsReceiptFor F.front.start change client.old client.new) }
-    ensures refused { IfErr result (λ fault. (client.new ≡ client.old)
-        × IsCallFault F.front.start (F.front.start.number + length client.old) (command_of change) fault) }
-{
-    match change {
-        Change::Configure { port, config } => client.configure(rt, port, config),
-        Change::Clear { port } => client.clear(rt, port),
-        Change::Rollback { port } => client.rollback(rt, port),
     }
 }
 

@@ -7,6 +7,6 @@ pub returns-in-Ok-clause-outcome : goal.returns-in-Ok-clause-outcome
 returns-in-Ok-clause-outcome g c =
     let said = c.in-Ok.ensures.receipt in (
       said.above,
-      stands_later g.F.Name.front.start c.in-Ok.receipt.pass c.receipt_for.new.client c.in-Ok.receipt.number (command_of c.args.change)
+      stands_later g.F.Name.front.start c.in-Ok.receipt.pass c.ask.new.self c.in-Ok.receipt.number (command_of c.args.change)
           said.stands said.met,
     )
