@@ -17,12 +17,12 @@ use std::io::Write;
 use std::os::unix::fs::FileExt;
 use std::rt::Files;
 
-/// Draws the run of the script of this name in SVG into the file at `picture`, which is made if there is none. Then writes a line to
-/// `out` (docs/FORMATS.md, "Pictures of runs"), and returns the exit status: 0 once that is done; 2 if the script or its geometry is
-/// not valid, and else 1.
+/// Draws the run of the script of this name in SVG into the file at `picture`, which is created if there is none. Then writes a line
+/// to `out` (docs/FORMATS.md, "Pictures of runs"), and returns the exit status: 0 once that is done; 2 if the script or its geometry
+/// is not valid, and otherwise 1.
 ///
-/// If the run fails, or the picture cannot be opened, made or written, or is in use, a line on `err` says why, and nothing is written
-/// to `out`. If writing to `out` fails, nothing is written to `err`.
+/// If the script is not valid, the run fails, memory runs out, or the picture cannot be opened, created or written, or is in use, a
+/// line on `err` says why, and nothing is written to `out`. If writing to `out` fails, nothing is written to `err`.
 pub fn draw_text<
     F: FileExt + OpenFile + LockFile + Drop,
     R: Files<File = F> + AllocGlobal,
@@ -46,7 +46,8 @@ pub fn draw_text<
     }
 }
 
-// Draws the run of a script into the file at `picture`, and returns the line to print. All that needs memory comes before the file.
+// Draws the run of a script into the file at `picture`, and returns the line to print. All memory is allocated before the file is
+// opened.
 fn draw<'a, F: FileExt + OpenFile + LockFile + Drop, R: Files<File = F> + AllocGlobal>(
     rt: &R,
     name: &str,
@@ -65,14 +66,14 @@ fn draw<'a, F: FileExt + OpenFile + LockFile + Drop, R: Files<File = F> + AllocG
     Ok(line)
 }
 
-// The line that is printed of a picture, and the picture.
+// The line that is printed for a picture, and the picture.
 #[derive(Drop)]
 struct Drawn {
     line: String,
     picture: String,
 }
 
-// Draws the run of a script.
+// Makes the run of a script, and draws it.
 fn drawn_run(alloc: Global, name: &str, script: &[u8]) -> Result<Drawn, Fault<'static>>
     ensures ran { OnOk result (CanRun script.now) }
     ensures printed { IfOk result (λ drawn. TellsDrawn script.now (string_bytes drawn.line)) }
@@ -84,7 +85,7 @@ fn drawn_run(alloc: Global, name: &str, script: &[u8]) -> Result<Drawn, Fault<'s
     drawing_of(alloc, name, &explained, &ready.script, numbers)
 }
 
-// Makes the picture of a script's run, and its line.
+// Makes the picture of a script's run, and the line to print.
 fn drawing_of(
     alloc: Global,
     name: &str,
@@ -101,7 +102,7 @@ fn drawing_of(
     })
 }
 
-// Returns the line that is printed of a picture of this number of events.
+// Returns the line that is printed for a picture of this number of events.
 fn line_of(alloc: Global, events: usize) -> Result<String, AllocError>
     ensures { IfOk result (λ text. string_bytes text ≡ drawn_text events) }
 {

@@ -1,5 +1,5 @@
-//! A text as XML has it. Words of an explained run, a label and a name may have what XML reads as its own, and a name what XML does
-//! not accept at all.
+//! Writes a text as XML. The words of an explained run, a label and a name may have characters that XML reads as markup, and a name
+//! may have characters that XML does not accept at all.
 
 use std::fmt;
 
@@ -15,7 +15,7 @@ impl fmt::Display for Escaped<'_> {
     }
 }
 
-// Writes a character as XML has it. A character that XML does not accept becomes a blank.
+// Writes a character as XML. One below U+0020, or that XML does not accept, becomes a blank.
 pub(crate) fn write_escaped<W: fmt::Write>(
     f: &mut fmt::Formatter<W>,
     character: char,

@@ -3,7 +3,7 @@
 use iol_script::Step;
 use iol_types::{Change, Label, PORTS, PortId};
 
-// The number of port numbers, with 0, which is that of no port.
+// The number of port numbers, including 0, which no port has.
 pub(crate) const NUMBERS: usize = PORTS as usize + 1;
 
 // The labels of a script's ports, by their numbers.

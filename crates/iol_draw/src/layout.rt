@@ -9,8 +9,8 @@ use iol_explain::SectorUse;
 use iol_types::PortId;
 use std::alloc::{AllocError, Global};
 
-// The heights at which the lane of the clients begins and ends. It has the commands that are accepted or refused, and below
-// them those that are acknowledged.
+// The heights at which the lane of the clients begins and ends, and those of its two rows: accepted and refused commands, and
+// below them acknowledgements.
 pub(crate) const CLIENTS_TOP: usize = 30;
 
 pub(crate) const CLIENTS_BOTTOM: usize = 86;
@@ -36,7 +36,7 @@ pub(crate) struct Layout<'a> {
 }
 
 impl<'a> Layout<'a> {
-    // Makes the lanes of these ports, at this scale or at one that reaches farther.
+    // Makes the lanes of these ports, at this scale; its stop is moved to the right if their texts reach farther.
     pub(crate) fn of(
         alloc: Global,
         scale: Scale,
@@ -89,7 +89,8 @@ impl<'a> Layout<'a> {
     }
 }
 
-// Returns the row of a write. A batch writes the body of a slot and opens its gate.
+// Returns the row of a write: that of batches for the body of a slot and for opening its gate, and otherwise that of
+// checkpoints.
 fn row_of(place: SectorUse, is_gate_open: bool) -> usize {
     match place {
         SectorUse::Body(_, _) => BATCHES,

@@ -14,7 +14,7 @@
 //! - `labels` has the labels of ports, and `look` the look of a status. `scale` says where columns are, `note` where texts
 //!   beside bars and signs are, and `lane` and `layout` where the lanes of ports and all lanes are.
 //! - `sign` has the signs, `shape` draws those of a run, `lane_shape` draws a lane, `name` is the name of the script, and
-//!   `escaped` is a text as XML has it.
+//!   `escaped` writes a text as XML.
 //! - `legend` says what each sign means, and `picture` puts all together.
 //!
 //! `specs/Drawn.antt` defines what is printed.

@@ -23,7 +23,7 @@ pub(crate) struct ExplainedLines<'a> {
 }
 
 impl<'a> ExplainedLines<'a> {
-    // Begins at the first line.
+    // Makes the lines of which none is taken yet.
     pub(crate) fn new(lines: &'a [&'a str]) -> ExplainedLines<'a> {
         ExplainedLines {
             lines,
@@ -66,8 +66,8 @@ impl<'a> ExplainedLines<'a> {
     }
 }
 
-// Returns the number of lines that an explained run has of an event, after one that has reported the loss of
-// this port's device.
+// Returns the number of lines that an explained run has for an event, if the event before it has lost the device of
+// port `lost`.
 fn line_count(event: &Event, lost: Option<PortId>) -> usize {
     match event {
         Event::Attended { .. } => 0,

@@ -3,7 +3,7 @@
 
 use iol_port::PortStatus;
 
-// A bar: the colours of its inside and of its text, its height, and the most letters that its text has.
+// A bar: the colours of its inside and of its text, its height, and the largest number of letters of its text.
 #[derive(Clone, Copy)]
 pub(crate) struct Look {
     pub fill: &'static str,
@@ -32,7 +32,7 @@ pub(crate) fn look_of(status: PortStatus) -> Look {
     }
 }
 
-// Returns the bar of a status in which no parameters are moved.
+// Returns the bar of a status in which no parameters are transferred.
 fn quiet(fill: &'static str, letters: usize) -> Look {
     Look {
         fill,

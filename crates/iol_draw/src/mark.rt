@@ -28,7 +28,7 @@ pub(crate) enum What {
     Page {
         port: PortId,
     },
-    // A port has had an answer of its device.
+    // A port has got an answer from its device.
     Exchange {
         port: PortId,
     },
@@ -36,7 +36,7 @@ pub(crate) enum What {
     Loss {
         port: PortId,
     },
-    // A sector was written in this place, with the octets of an open gate or with others.
+    // A sector of this place was written, with the octets of an open gate or with others.
     Wrote {
         place: SectorUse,
         is_gate_open: bool,

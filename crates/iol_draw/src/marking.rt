@@ -25,7 +25,7 @@ pub(crate) struct Marking<'a> {
 }
 
 impl<'a> Marking<'a> {
-    // Begins without a mark. Titles are taken from these lines of the explained run.
+    // Starts without marks. Titles are taken from these lines of the explained run.
     pub(crate) fn new(
         alloc: Global,
         geometry: Geometry,

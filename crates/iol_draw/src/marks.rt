@@ -1,4 +1,4 @@
-//! A run has these marks.
+//! The marks of a whole run.
 
 use crate::mark::{Mark, Wait};
 use crate::marking::Marking;

@@ -1,12 +1,12 @@
-//! The name of a script, as the title of its picture has it.
+//! The name of a script, as the title of its picture shows it.
 
 use crate::escaped::write_escaped;
 use std::fmt;
 
-// The most characters of a name that are shown.
+// The largest number of characters of a name that are shown. Two dots follow if it has more.
 const MOST: usize = 60;
 
-// The last part of a script's path.
+// The last part of the path of a script.
 #[derive(Clone, Copy)]
 pub(crate) struct Name<'a>(&'a str);
 

@@ -73,8 +73,8 @@ pub(crate) struct Notes<'a> {
 }
 
 impl<'a> Notes<'a> {
-    // Puts notes into rows. A note is farther than those after it whose poles it would cover, so that no pole strikes through
-    // a text.
+    // Puts notes into rows. A note is in a farther row than those after it whose poles it would cover, so that no pole strikes
+    // through a text.
     pub(crate) fn of(mut notes: Vec<Note<'a>>) -> Notes<'a> {
         let mut rows = 0;
         for at in (0..notes.len()).rev() {

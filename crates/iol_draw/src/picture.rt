@@ -19,7 +19,7 @@ use iol_script::Script;
 use std::alloc::{AllocError, Global};
 use std::fmt;
 
-// The least width of a picture, for the lines below its lanes.
+// The least width of a picture, so that the lines below its lanes fit.
 const LEAST_WIDTH: usize = 960;
 // The distance from the top of the picture down to the title, and that between the texts below the lanes and the legend.
 const TITLE: usize = 20;
@@ -153,7 +153,7 @@ fn write_head<W: fmt::Write>(
     writeln!(f, "<rect width='{width}' height='{height}' fill='white'/>")
 }
 
-// Writes the title, and the name of the stop above it.
+// Writes the title, and the words that name the stop, above its line.
 fn write_front<W: fmt::Write>(
     f: &mut fmt::Formatter<W>,
     name: Name<'_>,

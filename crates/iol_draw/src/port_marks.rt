@@ -35,7 +35,7 @@ impl<'a> PortMarks<'a> {
         }
     }
 
-    // Gives the port this status from here on.
+    // Gives the port this status from this column on.
     pub(crate) fn begin(
         &mut self,
         status: PortStatus,
@@ -52,7 +52,7 @@ impl<'a> PortMarks<'a> {
         Ok(())
     }
 
-    // Ends the port's status here.
+    // Ends the port's status in this column.
     pub(crate) fn end(&mut self, column: usize) -> Result<(), AllocError> {
         if let Some(bar) = self.has {
             self.bars.push(Bar {
@@ -65,8 +65,8 @@ impl<'a> PortMarks<'a> {
         Ok(())
     }
 
-    // Notes that the port has read a page with these numbers. A device is shown if it differs from the one
-    // before.
+    // Notes that the port has read a page with these numbers. The device is shown if its connection or its numbers differ from
+    // those of the one before.
     pub(crate) fn find(
         &mut self,
         connection: u64,

@@ -1,10 +1,11 @@
-//! These words say what is recovered after a power stop.
+//! The words for what is recovered after a power stop.
 
 use iol_engine::Event;
 use iol_run::Stamped;
 use std::fmt;
 
-// The numbers of the last commands that were accepted and acknowledged, from 1 on, and 0 for none.
+// The number of the last command that was accepted, and of the last one that was acknowledged; 0 if
+// there is none.
 #[derive(Clone, Copy)]
 pub(crate) struct Answered {
     accepted: u64,
@@ -12,7 +13,7 @@ pub(crate) struct Answered {
 }
 
 impl Answered {
-    // Returns the last commands that were accepted and acknowledged in these events.
+    // Returns the numbers of the last commands that were accepted and acknowledged in these events.
     pub(crate) fn of(events: &[Stamped]) -> Answered {
         let (mut accepted, mut acknowledged) = (0, 0);
         for stamped in events {
@@ -29,7 +30,7 @@ impl Answered {
     }
 }
 
-// Commands up to this number are recovered of those that were answered so.
+// The words for a run with these answers, of which the commands up to this number are recovered.
 #[derive(Clone, Copy)]
 pub(crate) struct RecoveredWords {
     pub number: u64,
@@ -49,7 +50,7 @@ impl fmt::Display for RecoveredWords {
     }
 }
 
-// Writes that all commands are there.
+// Writes that all accepted commands are there.
 fn write_kept<W: fmt::Write>(f: &mut fmt::Formatter<W>, accepted: u64) -> fmt::Result {
     match accepted {
         0 => f.write_str("no command was accepted"),

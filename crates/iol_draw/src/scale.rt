@@ -62,8 +62,8 @@ impl Scale {
         self.start.saturating_add(self.step.saturating_mul(column))
     }
 
-    // Returns where a status ends that is left in a column. The last ones reach to the stop, so that they can be
-    // read.
+    // Returns where the bar of a status ends that is left in a column. The last bars reach to the stop, so that their words
+    // fit.
     pub(crate) fn right(self, column: usize) -> usize {
         if column < self.columns {
             self.left(column)

@@ -27,7 +27,7 @@ impl Numbers {
     }
 }
 
-// The facts of a stop that its lines say.
+// The facts about a stop that its lines give.
 #[derive(Drop)]
 pub(crate) struct StopText {
     // what the stop of the script keeps
@@ -75,7 +75,7 @@ pub(crate) fn write_stop<W: fmt::Write>(
     }
 }
 
-// Returns the word that scripts have for what a stop keeps.
+// Returns the word of scripts for what a stop keeps.
 fn word_of(keep: Pick) -> &'static str {
     match keep {
         Pick::Old => "old",

@@ -1,11 +1,11 @@
-//! Which sectors were written and not synced when the power stops.
+//! Finds the sectors that were written and not synced when the power stops.
 
 use iol_engine::Event;
 use iol_explain::{Explained, SectorUse, ToldCall, calls_between, calls_of_run, place_of};
 use iol_run::Stamped;
 use std::alloc::{AllocError, Global};
 
-// Sectors that follow one another are a span, with what is in each.
+// Sectors that follow one another in one record or body, or a single sector, and the place of the first.
 #[derive(Clone, Copy)]
 pub(crate) struct Span {
     pub place: SectorUse,
@@ -14,12 +14,12 @@ pub(crate) struct Span {
 }
 
 impl Span {
-    // Whether this sector is among them.
+    // Returns whether this sector is among them.
     fn has(&self, sector: usize) -> bool {
         self.first <= sector && sector <= self.last
     }
 
-    // Whether a sector of this place is the next one of the same record or body.
+    // Returns whether a sector of this place is the next one of the same record or body.
     fn reaches(&self, place: SectorUse, sector: usize) -> bool {
         let is_same = match (self.place, place) {
             (SectorUse::Record(_, port), SectorUse::Record(_, next)) => port == next,
@@ -30,7 +30,7 @@ impl Span {
     }
 }
 
-// The sectors that were written after the last sync that was made, in the order of their writes, each once.
+// Returns the sectors that were written after the last sync that succeeded, in the order of their writes, each once.
 pub(crate) fn unsynced_spans(alloc: Global, run: &Explained) -> Result<Vec<Span>, AllocError> {
     let mut spans = Vec::new(alloc);
     let calls = calls_of_run(&run.calls);
@@ -43,7 +43,7 @@ pub(crate) fn unsynced_spans(alloc: Global, run: &Explained) -> Result<Vec<Span>
     Ok(spans)
 }
 
-// How many calls there are up to the last sync that was made. A sync that failed is the last call of its disk.
+// Returns the number of calls up to the last sync that succeeded. A sync that failed is the last call of its disk.
 fn unsynced_from(calls: &[ToldCall], events: &[Stamped]) -> usize {
     let made = if has_failed(events) {
         calls.len().saturating_sub(1)
@@ -59,7 +59,7 @@ fn unsynced_from(calls: &[ToldCall], events: &[Stamped]) -> usize {
     from
 }
 
-// Whether a disk call has failed.
+// Returns whether a disk call has failed.
 fn has_failed(events: &[Stamped]) -> bool {
     let mut failed = false;
     for stamped in events {
@@ -68,7 +68,7 @@ fn has_failed(events: &[Stamped]) -> bool {
     failed
 }
 
-// Adds a sector to the spans that end at it, or as a span of its own.
+// Adds a sector to the span that it continues, or as a span of its own. A sector that a span has is not added again.
 fn add_sector(spans: &mut Vec<Span>, place: SectorUse, sector: usize) -> Result<(), AllocError> {
     for span in spans.iter_mut() {
         if span.has(sector) {

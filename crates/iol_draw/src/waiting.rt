@@ -24,7 +24,7 @@ impl Waiting {
         Ok(())
     }
 
-    // Adds the wait of each command up to this number that waited, as all of them were acknowledged.
+    // Adds the wait of each waiting command up to this number, since all of them were acknowledged.
     pub(crate) fn acknowledge(
         &mut self,
         number: u64,

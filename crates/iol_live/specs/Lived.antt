@@ -1,4 +1,4 @@
--- What is printed of a running master, and why nothing is.
+-- The text that is printed of a running master, and the reasons why none is.
 use Rattle.std.specs.Prelude.{◌≡◌, ◌⊎◌, Some, None, ℕ, ◌+◌, nat_le, Bool, false, List, ◌++◌, length, codes, Ok}
 use Rattle.std.specs.Fmt.{decimal}
 use Rattle.std.specs.List.{list_all}
@@ -16,26 +16,26 @@ use Rattle.iol_script.specs.LiveScript.{SaidLive, live_in}
 use Rattle.iol_script.specs.Script.{IsText}
 use Rattle.iol_script.specs.declared.device.Device.{Device}
 
--- what is printed: how many receipts there are, and the lines of the state that is recovered (format, Texts)
+-- the printed text: the number of receipts, and the lines of the recovered state (format, Texts)
 abbrev pub lived_text : ℕ → List ℕ → List ℕ
 lived_text receipts state = codes "receipts " ++ (decimal receipts ++ (codes "\n" ++ state))
 
--- a text tells so many receipts, and the state after some commands behind what was there (format, Texts)
+-- a text has this number of receipts, and the number and state after what was there and some further commands (format, Texts)
 abbrev pub IsAfterWhatIsThere : ℕ → Standing → List ℕ → Type 0
 IsAfterWhatIsThere receipts there text =
     (commands : List CommandValue)
     × (text ≡ lived_text receipts (recovered_text (there.number + length commands) (after there.state commands)))
 
--- each device of a script is at one of so many ports (format, Scripts)
+-- each device of a script is at one of `ports` ports (format, Scripts)
 abbrev pub fits : ℕ → List Device → Bool
 fits ports devices = list_all (λ (device : Device). nat_le device.port ports) devices
 
--- the devices of a script fit the image, or not: they are at the ports that an honest disk has (format, Scripts)
+-- if an honest disk holds a journal, the answer is whether each device of a script is at one of its ports (format, Scripts)
 abbrev pub Fits : Disk → List Device → Bool → Type 0
 Fits disk devices answer =
     Shows disk (λ image. (there : Standing) → standing_in disk.sectors image ≡ Ok there → fits (length there.state) devices ≡ answer)
 
--- why a run that has begun prints nothing: a thread could not start, a client has no receipt, or a disk call or memory failed
+-- why a run that has begun prints nothing: a thread could not be made, a client has no receipt, a disk call failed, or memory ran out
 -- (format, Texts)
 abbrev pub IsRunCause : Fault → Type 0
 IsRunCause Thread = Unit {0}
@@ -44,40 +44,40 @@ IsRunCause OfDisk = Unit {0}
 IsRunCause Memory = Unit {0}
 IsRunCause fault = ⊥
 
--- a master did not start, and not for want of a link for each port (own)
+-- a master did not start, although it got a link for each port (own)
 abbrev pub HasLinks : {D : Type 0} → StartFault D → Type 0
 HasLinks (start.Ports disk) = ⊥
 HasLinks (start.Memory disk) = Unit {0}
 HasLinks (start.Thread disk) = Unit {0}
 
--- what is told of a master that does not start (format, Texts)
+-- the fault that is reported if a master with a link for each port does not start (format, Texts)
 abbrev pub IsStartCause : {D : Type 0} → StartFault D → Fault → Type 0
 IsStartCause (start.Memory disk) Memory = Unit {0}
 IsStartCause (start.Thread disk) Thread = Unit {0}
 IsStartCause start_fault fault = ⊥
 
--- why nothing is printed of a disk on which a journal stands: a device is at a port that is not there, or the run prints nothing
+-- why nothing is printed of a disk that holds a journal: a device is at a port that does not exist, or the run prints nothing
 -- (format, Texts)
 abbrev pub IsLiveCause : Disk → List Device → Fault → Type 0
 IsLiveCause disk devices fault = ((fault ≡ Fit) × Fits disk devices false) ⊎ IsRunCause fault
 
--- a text tells so many receipts, and some number and state (format, Texts)
+-- a text has this number of receipts, and the recovered text of some number and state (format, Texts)
 abbrev pub TellsReceipts : ℕ → List ℕ → Type 0
 TellsReceipts receipts text = (number : ℕ) × (state : State) × (text ≡ lived_text receipts (recovered_text number state))
 
--- a text tells a receipt for each step of a script, and what was recovered behind them (format, Texts)
+-- a text has one receipt for each step of a valid script, and the recovered text of some number and state (format, Texts)
 pub record TellsRun (script text : List ℕ) : Type 0 where
   pub said : SaidLive
   pub valid : IsText script
   pub script_is : live_in script ≡ Some said
   pub told : TellsReceipts (length said.changes) text
 
--- why nothing is printed: the script is not valid, or it is not to blame (format, Texts)
+-- why nothing is printed: the script is not valid, or another fault has the status 1 (format, Texts)
 abbrev pub IsScriptCause : List ℕ → Fault → Type 0
 IsScriptCause script fault = ((fault ≡ Script) × (IsText script → live_in script ≡ None)) ⊎ (status_of fault ≡ 1)
 
--- a status that is not 0 has a reason: a fault is why, with this status, and nothing is written to the output; or the status is 1, and
--- a run of the script was to be printed, as where writing the output failed (format, Texts)
+-- a status that is not 0 has a reason: a fault with this status, and nothing is written to the output; or the status is 1, and a run's text
+-- was to be printed, as when writing fails (format, Texts)
 abbrev pub IsSilent : {O : Type 0} → List ℕ → ℕ → O → O → Type 0
 IsSilent script status out written =
     ((fault : Fault) × IsScriptCause script fault × (status ≡ status_of fault) × (written ≡ out))

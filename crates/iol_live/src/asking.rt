@@ -28,8 +28,8 @@ type Asking = Vec<JoinHandle<Result<(), CallFault>>>;
 // there is one receipt for each change.
 //
 // # Errors
-// `Memory` if memory runs out, also for an accepted change, `Thread` if a client's thread cannot be made, and `Call` if another
-// change has no receipt, once all clients have ended. If the disk failed, that is reported instead.
+// `Memory` or `Thread` if a client cannot be started; then `Memory` if memory ran out for an accepted change, and `Call` if
+// another change has no receipt. All clients that were started have ended.
 pub(crate) fn ask_all<
     D: SectorDisk + Drop + Send + 'static,
     F: Name + 'static,
@@ -246,7 +246,7 @@ fn hear<E: Write, R: Wait>(
 // Waits until these clients have ended.
 //
 // # Errors
-// `Memory` if memory ran out for an accepted change, or else `Call` if a change has no receipt.
+// `Memory` if memory ran out for an accepted change, then `Call` if another change has no receipt.
 fn join_all<R: Threads>(rt: &R, clients: Asking) -> Result<(), Fault<'static>>
     ensures cause { IfErr result IsRunCause }
     ensures status { IfErr result (λ fault. status_of fault ≡ 1) }
@@ -288,7 +288,8 @@ impl Missing {
     }
 }
 
-// Returns why receipts are missing, if any are: memory ran out for an accepted change, or else a change was refused.
+// Returns why receipts are missing, if any are: memory ran out for an accepted change, or otherwise a change was refused or is
+// not known to be durable.
 fn told_of(unwritten: bool, refused: bool) -> Result<(), Fault<'static>>
     ensures told { MatchResult result (λ _. unreceived unwritten refused ≡ None) (λ fault. unreceived unwritten refused ≡ Some fault) }
     ensures cause { IfErr result IsRunCause }

@@ -19,7 +19,7 @@ use std::thread::Threads;
 use std::time::Clock;
 
 /// Runs a master on the image file at `path`, with the devices and the clients of a script, and returns the exit status. It is
-/// 0 once the number of receipts and the recovered state are written to `out`, 2 if the script is not valid, and else 1.
+/// 0 once the number of receipts and the recovered state are written to `out`, 2 if the script is not valid, and otherwise 1.
 ///
 /// If the command fails, a line on `err` says why, and nothing is written to `out`. If writing to `out` fails, nothing is
 /// written to `err` after the reports of receipts. The command handles no signal: a program that is killed is a power stop, and
@@ -44,7 +44,7 @@ pub fn live_image<
     }
 }
 
-// Returns the text to print. The script is judged before the image is opened.
+// Returns the text to print. The script is checked before the image is opened.
 fn text_of_live<
     'a,
     F: FileExt + OpenFile + LockFile + Drop + Send + 'static,

@@ -1,5 +1,5 @@
-//! Worked examples of what is printed of a running master, which the check computes. A text that is wrong both in a definition
-//! and in the code is refused here.
+//! Worked examples of what is printed of a running master: the prover computes each of these. They catch a text that is wrong
+//! both in a definition and in the code.
 ghost use Rattle.std.specs.Prelude.{◌≡◌, true, false, [], ◌∷◌, codes};
 ghost use Rattle.iol_texts.specs.Recovered.{recovered_text};
 ghost use Rattle.iol_types.specs.declared.command.Change.TheVariants.{Clear, Rollback};
@@ -18,7 +18,7 @@ pub fn last_ports()
     ensures behind { (device : Device) → device.port ≡ 3 → fits 2 (device ∷ []) ≡ false }
 {}
 
-/// A port is asked for its own changes, in their order.
+/// A port has its own changes, in their order.
 pub fn of_a_port()
     ensures { changes_of 2 (Clear 2 ∷ Clear 1 ∷ Rollback 2 ∷ Rollback 1 ∷ []) ≡ Clear 2 ∷ Rollback 2 ∷ [] }
 {}

@@ -39,9 +39,9 @@ use std::time::Clock;
 /// again.
 ///
 /// # Errors
-/// Why the disk is not recovered; `Fit` if a device is at a port that does not exist; `Thread` if a thread cannot be made.
-/// `Disk` if a disk call fails; `Call` if a client has no receipt; `Memory` if memory runs out. A change that has a receipt
-/// is on the disk in each case.
+/// Why the disk is not recovered; `Fit` if a device is at a port that does not exist; `Memory` or `Thread` if the master does
+/// not start. Then `Disk` if a disk call fails; `Memory` if memory runs out, `Thread` if a client's thread cannot be made, and
+/// `Call` if a client has no receipt. A change that has a receipt is on the disk in each case.
 pub fn live_on_disk<
     D: SectorDisk + Drop + Send + 'static,
     E: Write,
@@ -64,7 +64,7 @@ pub fn live_on_disk<
     ensures text { IfOk result (λ text. TellsReceipts (vec_len script.now.changes) (string_bytes text)) }
     ensures fits { OnOk result (Fits (D.disk disk) script.now.devices.items true) }
     ensures silent { telling ≡ Telling.Nothing → err.new ≡ err.old }
-    // On a disk that reads as it was written and that holds a journal, nothing else is a cause.
+    // On a disk that reads as it was written and that holds a journal, the only faults are `Fit` and those of a run.
     ensures cause { ((d : D) → IsTrue (D.disk d).honest) → IsKept (D.disk disk).sectors (reads (D.disk disk).content)
         → IfErr result (IsLiveCause (D.disk disk) script.now.devices.items) }
     ensures status { IfErr result (λ fault. status_of fault ≡ 1) }
@@ -156,7 +156,8 @@ fn started<
     }
 }
 
-// Has the clients of a script request their changes of a running master, ends the master, and returns the text to print.
+// Has the clients of a script request their changes of a running master, ends the master, and returns the text to print. A
+// failed disk and unwritten commands are reported before a missing receipt.
 fn live_with<
     D: SectorDisk + Drop + Send + 'static,
     F: Name + 'static,

@@ -23,7 +23,7 @@ pub(crate) struct PortReceipt {
 }
 
 impl Telling {
-    // Reports a receipt; `count` includes it. A failed write changes nothing of the run.
+    // Reports a receipt; `count` includes it. A failed write does not change the run.
     pub(crate) fn tell<E: Write>(self, err: &mut E, told: PortReceipt, count: usize)
         ensures { self ≡ Telling.Nothing → err.new ≡ err.old }
     {

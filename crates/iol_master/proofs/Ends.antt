@@ -1,4 +1,4 @@
--- How a flusher ends that has its journal since the start, and what is left of a master that did not start.
+-- The end of a flusher that received its journal at the start.
 use Rattle.std.proofs.Common.{◌≡◌, ◌⊎◌, inl, inr, true, false, List, refl, sym, ◌∙◌, subst}
 use Rattle.iol_types.specs.Command.{CommandValue}
 use Rattle.iol_disk.specs.Disk.{Disk, HasFailed}
@@ -41,7 +41,7 @@ module _ {D : Type 0} (disk : D → Disk) (start : Start) (first : JournalView D
       subst (λ (b : JournalView D). IsWhole disk start first b published) (sym same)
       (subst (λ (l : List CommandValue). IsWhole disk start first j l) (sym same_list) (at_rest j list since step))
 
-  -- a flusher that ends has nothing on its way
+  -- a flusher that may end has no batch or checkpoint midway
   midway : (stage : FlushStage D) → IsOver stage → IsMidway stage → ⊥
   midway (Opening c) over is = calls_none over
   midway (Given j b) over is = calls_none over
@@ -71,7 +71,7 @@ module _ {D : Type 0} (disk : D → Disk) (start : Start) (first : JournalView D
   ends (Writing w) list (flush.Faulted left cause) since over is step = absurd cc
   ends (Publishing j w) list (flush.Faulted left cause) since over is step = absurd cc
 
-  -- and so it never ends midway
+  -- so a flusher never ends midway
   pub never_midway : {F : Type 0} (out : FlushEnd D F) → EndsFrom disk start first out → NeverMidway out
   never_midway (flush.Closed back published) is = tt
   never_midway (flush.Midway left) is = absurd is

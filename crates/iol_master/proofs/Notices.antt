@@ -1,4 +1,4 @@
--- A command of a batch stands at its number.
+-- The numbers of commands in lists, and the receipt that a notice gives.
 use Rattle.std.proofs.Common.{◌≡◌, ◌<◌, ◌≤◌, ℕ, ◌+◌, ◌-◌, zero, suc, List, [], ◌∷◌, ◌++◌, length, Some, slice_get, sym, ap, ◌∙◌}
 use Rattle.std.proofs.Common.{arith, zero-add, suc-add, subst}
 use Rattle.std.proofs.lemmas.List.{append-nil}
@@ -22,15 +22,15 @@ module _ {A : Type 0} where
   got_before (a ∷ xs) ys zero x is = is
   got_before (a ∷ xs) ys (suc i) x is = got_before xs ys i x is
 
-  -- what stands in a beginning stands in the whole
+  -- an item of a prefix is at the same place in the whole list
   got_in : (xs zs : List A) (i : ℕ) (x : A) → IsPrefix xs zs → slice_get xs i ≡ Some x → slice_get zs i ≡ Some x
   got_in xs zs i x (rest, whole) is = ap (λ (l : List A). slice_get l i) (sym whole) ∙ got_before xs rest i x is
 
--- what is the same begins the other
+-- a list is a prefix of a list that is equal to it
 pub unmoved : {A : Type 0} (before after : List A) → after ≡ before → IsPrefix before after
 unmoved before after same = ([], append-nil before ∙ sym same)
 
--- why a client does not hear that its command is durable is why it has no receipt
+-- the fault by which a command is not known to be durable is a fault of the call
 pub untold : (start : Start) (seen : ℕ) (command : CommandValue) (fault : CallFault) → IsUntold fault
     → IsCallFault start seen command fault
 untold start seen command call.Memory is = absurd is
@@ -38,7 +38,7 @@ untold start seen command (call.Submit cause) is = absurd is
 untold start seen command call.Unsure is = tt
 untold start seen command call.Unwritten is = tt
 
--- a command at a place of a batch that was seen
+-- a command of a batch has its number in each list that has seen the batch
 pub stands_at : (start : Start) (before commands seen : List CommandValue) (number place : ℕ) (command : CommandValue)
     → IsPrefix (before ++ commands) seen → slice_get commands place ≡ Some command → number ≡ start.number + length before + 1 + place
     → StandsAt start seen number command
@@ -51,13 +51,13 @@ stands_at start before commands seen number place command shown at is =
           ∙ got_in (before ++ commands) seen (length before + place) command shown (got_behind before commands place ∙ at);
     }
 
--- it is no number above the count
+-- the number of a command is not above that of the last command of its list
 pub stands_within : (start : Start) (seen : List CommandValue) (number : ℕ) (command : CommandValue) → StandsAt start seen number command
     → number ≤ start.number + length seen
 stands_within start seen number command at =
     omega (arith, slice_get_within seen (number - start.number - 1) command at.there, at.above)
 
--- it stands in each list that the list begins
+-- a command has the same number in each list of which its list is a prefix
 pub stands_later : (start : Start) (seen later : List CommandValue) (number : ℕ) (command : CommandValue)
     → StandsAt start seen number command → IsPrefix seen later → StandsAt start later number command
 stands_later start seen later number command at longer = record {
@@ -65,7 +65,7 @@ stands_later start seen later number command at longer = record {
   there = got_in seen later (number - start.number - 1) command longer at.there;
 }
 
--- what a notice says is a receipt, once the client has met its pass
+-- a notice gives a receipt, once the client has met its pass
 pub has_receipt : {F : Type 0} (start : Start) (change said : Change) (before after shown seen : List CommandValue) (number at count : ℕ)
     → said ≡ change → at ≡ number → StandsAt start shown at (command_of said) → count ≡ start.number + length before → count < number
     → IsPrefix shown seen → IsPrefix seen after

@@ -1,4 +1,4 @@
--- What a client reads, and why it reads nothing.
+-- The view that a client reads, and the reasons why it reads nothing.
 use Rattle.std.proofs.Common.{◌≡◌, refl, ◌≤◌, ℕ, ◌+◌, ◌-◌, zero, suc, nat_le, Bool, true, false, if◌then◌else◌, List, [], ◌∷◌, length, take}
 use Rattle.std.proofs.Common.{Option, Some, None, true≢false, IsNone, IsSome, IfSome, Result, Ok, Err, IfOk, OnErr, OnOk, slice_get, sym}
 use Rattle.std.proofs.Common.{ap, ◌∙◌, subst, arith}
@@ -17,7 +17,7 @@ use Rattle.iol_core.specs.declared.port.View.{View}
 use Rattle.iol_headline.specs.Lists.{IsLawfulList}
 use Rattle.iol_master.specs.Faults.{IsUnknown}
 
--- what is not there in a list is not there in one as long
+-- a place that is not in a list is not in a list of the same length
 not_there : {A : Type 0} (one two : List A) (i : ℕ) → length two ≡ length one → slice_get one i ≡ None → slice_get two i ≡ None
 not_there one [] i same is = refl
 not_there [] (y ∷ two) i same is = absurd (omega (arith, same))
@@ -43,7 +43,7 @@ unknown_later start seen number port state stands is =
     lacks_place (nat_le 1 port) start.state state (port - 1)
     (ap length stands.state ∙ length-after start.state (take (number - start.number) seen)) is
 
--- the port that is answered is that of the client's own list
+-- the port in a view is the port after the client's own list
 pub view_later : (start : Start) (core : CoreView) (later : List CommandValue) (port : ℕ) (p : Port)
     → Stands start core.seen core.number core.durable → IsPrefix core.seen later → port_numbered core.durable port ≡ Some p
     → (core.number ≤ start.number + length later) × (port_numbered (state_at start later core.number) port ≡ Some p)
@@ -51,7 +51,7 @@ view_later start core later port p stands met is =
     let now = stands_later start core.seen later core.number core.durable stands met in
     (now.within, ap (λ (s : State). port_numbered s port) (sym now.state) ∙ is)
 
--- a view tells the number, and a port that is there
+-- a view has this number, and a port that exists
 some_view : (found : Option Port) (number : ℕ) (view : View)
     → Some view ≡ option_map (λ (p : Port). record { port = p; number = number }) found → (view.number ≡ number) × (found ≡ Some view.port)
 some_view None number view is = absurd cc
@@ -59,7 +59,7 @@ some_view (Some p) number view is =
     let same : view ≡ record { port = p; number = number } = cc in
     (ap (λ (v : View). v.number) same, ap (λ (v : View). Some v.port) (sym same))
 
--- what is answered stands in the list that the pass has seen then
+-- a view is the state of a port after commands that the pass has then seen
 pub views : {E : Type 0} (start : Start) (core new : CoreView) (later : List CommandValue) (port : ℕ) (answer : Result (Option View) E)
     → IfOk answer (λ (v : Option View). v ≡ view_at core port) → new ≡ record core { seen = new.seen }
     → Stands start new.seen new.number new.durable → OnOk answer (IsPrefix new.seen later)
@@ -73,7 +73,7 @@ views start core new later port (Ok (Some view)) is others stands met =
     subst (λ (n : ℕ). (n ≤ start.number + length later) × (port_numbered (state_at start later n) port ≡ Some view.port)) number
     (view_later start new later port view.port stands met (ap (λ (c : CoreView). port_numbered c.durable port) others ∙ same.1))
 
--- two things that are said of a view are said of it one by one
+-- of two claims about a view each holds alone
 pub first_of : {E : Type 0} (P Q : View → Type 0) (answer : Result (Option View) E)
     → IfOk answer (λ (found : Option View). IfSome found (λ (view : View). P view × Q view))
     → IfOk answer (λ (found : Option View). IfSome found P)
@@ -88,7 +88,7 @@ second_of P Q (Err why) both = tt
 second_of P Q (Ok None) both = tt
 second_of P Q (Ok (Some view)) both = both.1
 
--- a port of which there is no view is not there
+-- a port without a view does not exist
 no_view : (found : Option Port) (number : ℕ) → IsNone {T = View} (option_map (λ (p : Port). record { port = p; number = number }) found)
     → found ≡ None
 no_view None number none = refl
@@ -104,7 +104,7 @@ no_views start core new port (Ok found) is others stands = λ none.
     unknown_before start new.seen new.number port new.durable stands
     (ap (λ (c : CoreView). port_numbered c.durable port) others ∙ gone)
 
--- a port for whose set memory is out is one that the master has
+-- memory runs out only for the set of a port that the master has
 pub refused_known : {A E : Type 0} (start : Start) (core new : CoreView) (port : ℕ) (answer : Result A E)
     → OnErr answer (IsSome (durable_set core port)) → new ≡ record core { seen = new.seen }
     → Stands start new.seen new.number new.durable → OnErr answer (IsUnknown start.state port → ⊥)
@@ -116,7 +116,7 @@ refused_known start core new port (Err why) some others stands = λ unknown.
     let wrong : IsSome (stored_at None) = subst (λ (p : Option Port). IsSome (stored_at p)) none some in
     absurd (true≢false (sym wrong))
 
--- what is answered is the state after a lawful list, which the client has seen
+-- a view is the state after a lawful list, which the client has seen
 pub lawful_view : {E : Type 0} (start : Start) (core new : CoreView) (later : List CommandValue) (port : ℕ)
     (answer : Result (Option View) E) → IfOk answer (λ (v : Option View). v ≡ view_at core port)
     → new ≡ record core { seen = new.seen } → Stands start new.seen new.number new.durable → OnOk answer (IsPrefix new.seen later)

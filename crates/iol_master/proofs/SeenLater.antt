@@ -1,4 +1,4 @@
--- What a core has seen, as a later pass has it.
+-- The commands that a core has seen, in the list of a later pass.
 use Rattle.std.proofs.Common.{◌-◌, ℕ, List, take, sym, subst, arith}
 use mathlib.Core.List.{IsPrefix}
 use Rattle.iol_types.specs.Command.{CommandValue}
@@ -8,7 +8,7 @@ use Rattle.iol_core.specs.Standing.{Stands}
 use Rattle.iol_front.specs.Fronts.{Start}
 use Rattle.iol_headline.specs.Lists.{IsLawfulList}
 
--- what a core has seen is lawful as a later pass has it
+-- if the commands up to a number are lawful in the list of a core, they are lawful in the list of a later pass
 pub seen_later : (start : Start) (number : ℕ) (seen later : List CommandValue) (state : State) → Stands start seen number state
     → IsPrefix seen later → IsLawfulList start number (take (number - start.number) seen)
     → IsLawfulList start number (take (number - start.number) later)

@@ -5,7 +5,7 @@ use Rattle.std.proofs.lemmas.List.{append_assoc, map-append}
 use Rattle.iol_types.specs.declared.port_id.TheConstants.{PORTS}
 use Rattle.iol_master.specs.declared.working.ServedPort.{ServedPort}
 
--- what stands at a place once one more is there: what stood there, or the new one behind all
+-- an item of a list with one more item is an item of the list before, or the new one at the end
 got_further : {A : Type 0} (length_so_far k : ℕ) (there : List A) (new x : A)
     → (slice_get there k ≡ Some x) ⊎ ((k ≡ length_so_far) × (x ≡ new))
     → (slice_get there k ≡ Some x) ⊎ ((suc k ≡ suc length_so_far) × (x ≡ new))
@@ -42,7 +42,7 @@ module _ {L F : Type 0} where
   its_port before new its k so_far last (inl there) = so_far there
   its_port before new its k so_far last (inr (at, same)) = ap (λ (one : ServedPort L F). one.port) same ∙ last at
 
-  -- and each so far has the number of its place
+  -- the port at place k has the number k + 1
   pub port_more : (before after : List (ServedPort L F)) (new its : ServedPort L F) (k : ℕ)
       → ((k : ℕ) (its : ServedPort L F) → k < PORTS → slice_get before k ≡ Some its → its.port ≡ k + 1)
       → (k ≡ length before → new.port ≡ k + 1) → after ≡ before ++ new ∷ [] → k < PORTS → slice_get after k ≡ Some its

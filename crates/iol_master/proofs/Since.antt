@@ -23,7 +23,7 @@ use Rattle.iol_flush.specs.declared.stage.FlushStage.{FlushStage}
 use Rattle.iol_flush.specs.declared.stage.FlushStage.TheVariants.{Resting, Opening, Given, Checkpointing, Writing, Publishing, Failed}
 use Rattle.iol_master.specs.Since.{CountsAs, IsSince}
 
--- a failure that is counted from a disk with as many
+-- a failure counted since one moment is counted since each earlier one with the same number of failures
 fails_from : (first mid last : Disk) → mid.failures ≡ first.failures → HasFailed mid last → HasFailed first last
 fails_from first mid last same (inl rose) = inl (omega (arith, same, rose))
 fails_from first mid last same (inr most) = inr most
@@ -33,7 +33,7 @@ counts_from : (told : Option DiskFault) (first mid last : Disk) → mid.failures
 counts_from None first mid last same counts = counts ∙ same
 counts_from (Some cause) first mid last same failed = fails_from first mid last same failed
 
--- what tells no failure tells none
+-- a stage without a failure reports none, and its disk has counted none
 tells_none : (told : Option DiskFault) (cause : DiskFault) → told ≡ None → told ≡ Some cause → ⊥
 tells_none told cause none some = let wrong : None ≡ Some cause = sym none ∙ some in absurd cc
 
@@ -51,7 +51,7 @@ module _ {D : Type 0} (disk : D → Disk) where
   pub since_same : (old new : FlushStage D) → new ≡ old → IsSince disk old new
   since_same old new same = subst (λ (s : FlushStage D). IsSince disk old s) (sym same) (since_self old)
 
-  -- one behind the other
+  -- what is kept from one stage to a second, and from there to a third, is kept from the first to the third
   pub since_both : (old mid new : FlushStage D) → IsSince disk old mid → IsSince disk mid new → IsSince disk old new
   since_both old mid new one two = record {
     sound = λ sound. two.sound (one.sound sound);
@@ -68,7 +68,7 @@ module _ {D : Type 0} (disk : D → Disk) where
           subst (λ (s : FlushStage D). CountsAs (failure_of s) (disk (disk_of old)) (disk (disk_of s))) (sym (two.failed cause is))
           (subst (λ (o : Option DiskFault). CountsAs o (disk (disk_of old)) (disk (disk_of mid))) (sym is) failed)
 
-  -- behind a call that was made no failure is told
+  -- after a disk call that was made no failure is reported
   checkpointed_none : (c : CheckpointingView D) (batch : Batch) (new : FlushStage D) → HasMadeOfCheckpoint c batch new
       → failure_of new ≡ None
   checkpointed_none c batch (Given j b) has = refl
@@ -110,7 +110,7 @@ module _ {D : Type 0} (disk : D → Disk) where
   made_none (Publishing j w) new has = absurd has
   made_none (Failed d f) new has = absurd has
 
-  -- what has failed owes no call
+  -- a flusher whose disk call has failed has no disk call left
   owes_none : (old : FlushStage D) (cause : DiskFault) (call : Call) (left : List Call) → failure_of old ≡ Some cause
       → next_calls old ≡ call ∷ left → ⊥
   owes_none (Failed d f) cause call left told owes = absurd cc
@@ -126,7 +126,7 @@ module _ {D : Type 0} (disk : D → Disk) where
   counts_failed new cause first told failed =
       subst (λ (o : Option DiskFault). CountsAs o first (disk (disk_of new))) (sym told) failed
 
-  -- a disk step
+  -- a disk call is made, or fails, or none is made
   pub since_step : (old new : FlushStage D) (answer : Result Unit FlushFault) → IsDiskStep disk old new answer
       → (IsSound disk old → IsSound disk new) → IsSince disk old new
   since_step old new (Ok done) step sound =

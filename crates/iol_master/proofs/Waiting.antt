@@ -1,4 +1,4 @@
--- Who waits for a command waits for the one at its place.
+-- Each caller waits for the command at its place in the queue.
 use Rattle.std.proofs.Common.{◌≡◌, refl, ◌<◌, ◌≤◌, ℕ, ◌+◌, zero, suc, Bool, true, false, if◌then◌else◌, replicate}
 use Rattle.std.proofs.Common.{List, [], ◌∷◌, ◌++◌, length}
 use Rattle.std.proofs.Common.{take, drop, Option, Some, None, Result, Ok, Err, IfOk, IfErr, IsOk, OnOk, OnErr}
@@ -32,7 +32,7 @@ use Rattle.iol_master.specs.Wakes.{woken, woken_again}
 use Rattle.iol_master.specs.declared.guarded.Phase.{Phase}
 use Rattle.iol_master.specs.declared.guarded.Phase.TheVariants.{Running, Ending, Closed}
 
--- as many places as commands
+-- the number of places is the number of commands
 pub as_many : (queue : List CommandValue) (callers : List (Option Change)) → AreCallersOf queue callers → length callers ≡ length queue
 as_many [] [] are = refl
 as_many [] (c ∷ callers) are = absurd are
@@ -40,7 +40,7 @@ as_many (command ∷ queue) [] are = absurd are
 as_many (command ∷ queue) (None ∷ callers) are = ap suc (as_many queue callers are)
 as_many (command ∷ queue) (Some change ∷ callers) are = ap suc (as_many queue callers are.1)
 
--- one more command, for which nobody waits, or who asked for it
+-- one more command is queued, without a caller or with the one that requested it
 pub waits_more : (queue : List CommandValue) (callers : List (Option Change)) (command : CommandValue) (caller : Option Change)
     → AreCallersOf queue callers → AreCallersOf (command ∷ []) (caller ∷ [])
     → AreCallersOf (queue ++ command ∷ []) (callers ++ caller ∷ [])
@@ -50,7 +50,7 @@ waits_more (first ∷ queue) [] command caller are last = absurd are
 waits_more (first ∷ queue) (None ∷ callers) command caller are last = waits_more queue callers command caller are last
 waits_more (first ∷ queue) (Some change ∷ callers) command caller are last = (are.0, waits_more queue callers command caller are.1 last)
 
--- of the first commands, and of those behind them
+-- the first `count` commands have their callers, and so have the commands after them
 pub first_callers : (count : ℕ) (queue : List CommandValue) (callers : List (Option Change)) → AreCallersOf queue callers
     → AreCallersOf (take count queue) (take count callers)
 first_callers zero queue callers are = tt
@@ -69,7 +69,7 @@ other_callers (suc n) (command ∷ queue) [] are = absurd are
 other_callers (suc n) (command ∷ queue) (None ∷ callers) are = other_callers n queue callers are
 other_callers (suc n) (command ∷ queue) (Some change ∷ callers) are = other_callers n queue callers are.1
 
--- there are as many places as commands, so that a count of commands is one of places
+-- the number of commands at the front of the queue is the number of their places
 pub taken_places : (count : ℕ) (queue : List CommandValue) (callers : List (Option Change)) → AreCallersOf queue callers
     → (take (length (take count queue)) callers ≡ take count callers) × (drop (length (take count queue)) callers ≡ drop count callers)
 taken_places zero queue callers are = (refl, refl)
@@ -81,12 +81,12 @@ taken_places (suc n) (command ∷ queue) (None ∷ callers) are =
 taken_places (suc n) (command ∷ queue) (Some change ∷ callers) are =
     let rest = taken_places n queue callers are.1 in (ap (λ (ws : List (Option Change)). Some change ∷ ws) rest.0, rest.1)
 
--- nobody waits for any of them
+-- commands may all be without callers
 pub nobody_waits : (queue : List CommandValue) → AreCallersOf queue (replicate (length queue) None)
 nobody_waits [] = tt
 nobody_waits (command ∷ queue) = nobody_waits queue
 
--- once all who wait were let go, nobody waits at the places that they had
+-- once all callers are dropped, no caller waits at the places that they had
 pub nobody_left : (was queue : List CommandValue) (before after : List (Option Change)) (places : ℕ) → AreCallersOf was before
     → length queue ≡ length was → length before ≡ places → after ≡ replicate places None → AreCallersOf queue after
 nobody_left was queue before after places are same count is =
@@ -94,7 +94,7 @@ nobody_left was queue before after places are same count is =
     subst (λ (callers : List (Option Change)). AreCallersOf queue callers)
     (sym (is ∙ ap (λ (n : ℕ). replicate n None) all)) (nobody_waits queue)
 
--- who asked at a place asked for the command there
+-- a caller at a place requested the command there
 pub asked_at : (queue : List CommandValue) (callers : List (Option Change)) (place : ℕ) (change : Change) → AreCallersOf queue callers
     → slice_get callers place ≡ Some (Some change) → slice_get queue place ≡ Some (command_of change)
 asked_at [] [] place change are there = absurd (gone there)
@@ -115,14 +115,14 @@ asked_at (command ∷ queue) (Some asked ∷ callers) zero change are there =
     same is = cc
 asked_at (command ∷ queue) (Some asked ∷ callers) (suc place) change are there = asked_at queue callers place change are.1 there
 
--- a place in the first ones
+-- an item among the first `count` is the same in the whole list
 pub taken_at : {A : Type 0} (count place : ℕ) (xs : List A) → place < count → slice_get (take count xs) place ≡ slice_get xs place
 taken_at zero place xs below = absurd (omega (arith, below))
 taken_at (suc n) place [] below = refl
 taken_at (suc n) zero (x ∷ xs) below = refl
 taken_at (suc n) (suc place) (x ∷ xs) below = taken_at n place xs (omega (arith, below))
 
--- the first one behind a place is that at the place
+-- the first item of what is left from a place on is the item at that place
 pub first_behind : {A : Type 0} (xs : List A) (place : ℕ) (x : A) (rest : List A) → drop place xs ≡ x ∷ rest
     → slice_get xs place ≡ Some x
 first_behind [] zero x rest is = absurd (no_first is)
@@ -136,12 +136,12 @@ first_behind [] (suc n) x rest is = absurd (no_first is)
 first_behind (y ∷ ys) zero x rest is = ap (λ (l : List _). slice_get l 0) is
 first_behind (y ∷ ys) (suc n) x rest is = first_behind ys n x rest is
 
--- a list is full where it takes no more
+-- a call that succeeds returns no error
 pub not_taken : {A E : Type 0} (answer : Result A E) (why : E) → IsOk answer → answer ≡ Err why → ⊥
 not_taken (Ok done) why ok is = cc
 not_taken (Err fault) why ok is = cc
 
--- what is written over a whole list stands there
+-- a list that is written over the whole of another replaces it
 pub written_back : (len : ℕ) (new old : List ℕ) → length new ≡ length old → len ≡ length old
     → take len (new ++ drop (length new) old) ≡ new
 written_back len new old same all =
@@ -149,17 +149,17 @@ written_back len new old same all =
     ap (λ (behind : List ℕ). take len (new ++ behind)) rest
     ∙ (ap (take len) (append-nil new) ∙ take_all len new (omega (arith, same, all)))
 
--- no port comes or goes where one is woken
+-- waking a port does not change the number of ports
 pub woken_as_many : (phase : Phase) (port : ℕ) (wakes : List ℕ) → length (woken phase port wakes) ≡ length wakes
 woken_as_many Running port wakes = length-set wakes (port - 1) (woken_again (slice_index wakes (port - 1)))
 woken_as_many Ending port wakes = refl
 woken_as_many Closed port wakes = refl
 
--- there is room for one more place of as many as were kept
+-- while fewer places are filled than there were, the capacity suffices for one more
 pub room_left : (len count places all room was : ℕ) → len ≡ count → count < places → places ≡ all → all ≤ was → room ≡ was → len < room
 room_left len count places all room was filled below same fits kept = omega arith
 
--- a command is taken only where the queue has room
+-- a command is accepted only if the queue is not full
 queue_free : (stopped : Bool) (checked : Option CommandFault) (queue : Option SubmitFault)
     → (if stopped then Some Stopped else first_cause checked queue) ≡ None → queue ≡ None
 queue_free true checked queue none = absurd (there none)
@@ -176,7 +176,7 @@ pub submit_room : (core : CoreView) (command : CommandValue) → submit_fault co
     → length core.queue + 1 ≤ QUEUE_COMMANDS
 submit_room core command none = room_in core (queue_free (is_stopped core) (check (live core) command) (queue_fault core) none)
 
--- what a call of a port makes of the queue: where the number rises one more command waits, for which nobody does
+-- the queue after a call of a port: if the live number rises, one more command waits, without a caller; if not, the callers are the same
 pub record IsStillWaited (old new : ℕ) (queue : List CommandValue) (callers : List (Option Change)) : Type 0 where
   pub more : old < new → AreCallersOf queue (callers ++ None ∷ [])
   pub same : (old < new → ⊥) → AreCallersOf queue callers
@@ -212,26 +212,26 @@ handed_waits port handed old new callers (Ok told) steps same are =
 handed_waits port handed old new callers (Err why) steps same are =
     made_waits (Permits old.core.permits) old.core new.core callers (ap (λ (e : EngineView). e.core) same) are
 
--- what is behind the first of what is dropped to a place
+-- dropping one more item after the first `place` items drops the first `place + 1`
 pub dropped_next : {A : Type 0} (xs : List A) (place : ℕ) → drop 1 (drop place xs) ≡ drop (place + 1) xs
 dropped_next [] zero = refl
 dropped_next [] (suc n) = rw suc-add refl
 dropped_next (x ∷ xs) zero = refl
 dropped_next (x ∷ xs) (suc n) = rw suc-add (dropped_next xs n)
 
--- what holds in any case holds where it went well
+-- what holds in any case holds if a call succeeds
 pub on_ok : {A E P : Type 0} (answer : Result A E) → P → OnOk answer P
 on_ok (Ok done) p = p
 on_ok (Err why) p = tt
 
--- the batch in flight is no stranger
+-- the batch in flight is acknowledged, and not returned as a stranger
 pub not_strange : {F : Type 0} (start : Start) (old new : CoreView) (committed : CommittedView) (answer : Result ℕ (AckFault F))
     → IsInFlight start old committed → IfOk answer (λ number. new ≡ acknowledged old new.seen)
     → IfErr answer (λ fault. IsStranger start old committed fault × (new ≡ old)) → new ≡ acknowledged old new.seen
 not_strange start old new committed (Ok number) flies done strange = done
 not_strange start old new committed (Err (Stranger back)) flies done strange = absurd (strange.0.1 flies)
 
--- what an engine says of an acknowledged batch its core says too
+-- the claims about an engine that acknowledges a batch, or returns it, hold of its core
 pub core_acknowledged : {F : Type 0} (start : Start) (old new : EngineView) (committed : CommittedView) (answer : Result ℕ (AckFault F))
     → IfOk answer (λ number. IsInFlight start old.core committed × (new.core ≡ acknowledged old.core new.core.seen)
     × (number ≡ new.core.number))

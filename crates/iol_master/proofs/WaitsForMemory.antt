@@ -1,4 +1,4 @@
--- Where a flusher waits for memory, and that it may end from there.
+-- A flusher waits for memory only with its journal at rest, and may end from there.
 use Rattle.std.proofs.Common.{◌≡◌, inl, inr, Bool, true, false, Option, Some, None, if◌then◌else◌, refl, sym, ap, subst}
 use Rattle.iol_journal.specs.declared.batch.Batch.{Batch}
 use Rattle.iol_journal.specs.Journals.{JournalView}
@@ -11,7 +11,7 @@ use Rattle.iol_flush.specs.declared.stage.FlushStage.TheVariants.{Resting, Openi
 use Rattle.iol_master.specs.Endings.{IsOver, MayWait}
 
 module _ {D : Type 0} where
-  -- a disk call that wants memory is made of a journal at rest
+  -- a disk call that may need memory is made with the journal at rest
   wants : (stage : FlushStage D) → MayWant stage → MayWait stage
   wants (Resting j) want = tt
   wants (Given j b) want = tt
@@ -24,7 +24,7 @@ module _ {D : Type 0} where
   pub waits_for_memory : (old new : FlushStage D) → MayWant old → new ≡ old → MayWait new
   waits_for_memory old new want same = subst (λ (s : FlushStage D). MayWait s) (sym same) (wants old want)
 
-  -- so is one whose batch does not fit
+  -- a batch that does not fit leaves the journal at rest
   unfit : (stage : FlushStage D) → IsUnfit stage → MayWait stage
   unfit (Given j b) is = tt
   unfit (Resting j) is = absurd is
@@ -37,7 +37,7 @@ module _ {D : Type 0} where
   pub waits_unfit : (old new : FlushStage D) → IsUnfit old → new ≡ old → MayWait new
   waits_unfit old new is same = subst (λ (s : FlushStage D). MayWait s) (sym same) (unfit old is)
 
-  -- a journal at rest may be given a batch, or has an older layout
+  -- a flusher at rest may be given a batch, or its journal has an older layout
   rest_names : (j : JournalView D) (renewed : Bool) → is_renewed j.standing.layout ≡ renewed → IsOver (Resting j)
   rest_names j true is =
       inl (elim (is_due j) as (λ due. names_batch (if due then due_need (is_renewed j.standing.layout) else need.Batch) ≡ true)

@@ -6,7 +6,8 @@ use Rattle.iol_master.specs.declared.client.CallFault.{CallFault}
 use Rattle.iol_master.specs.declared.client.CallFault.TheVariants as call
 use Rattle.iol_master.specs.Receipts.{NoticeView}
 
--- a notice means that the change is durable, the answer Unwritten that it is not written, and no answer that nobody knows (own)
+-- the result of a call: the notice if the change is durable, the fault `Unwritten` if it is not written, and `Unsure` if no answer comes
+-- (own)
 abbrev pub IsToldBy : {F : Type 0} → Option (CallerAnswer F) → Result NoticeView CallFault → Type 0
 IsToldBy (Some (answer.Durable notice)) told = told ≡ Ok notice
 IsToldBy (Some answer.Unwritten) told = told ≡ Err call.Unwritten

@@ -11,11 +11,11 @@ use Rattle.iol_master.specs.declared.caller.Caller.{Caller}
 use Rattle.iol_master.specs.declared.guarded.Phase.{Phase}
 use Rattle.iol_master.specs.declared.guarded.Phase.TheVariants.{Running}
 
--- the change that a waiting caller asked for, if there is a caller (own)
+-- the change that a waiting caller requested, if there is a caller (own)
 abbrev pub asked : {F : Type 0} → Option (Caller F) → Option Change
 asked caller = option_map (λ c. c.change) caller
 
--- each command of the queue has no caller, or one that asked for that very command (own)
+-- each command of the queue has no caller, or one that requested this command (own)
 abbrev pub AreCallersOf : List CommandValue → List (Option Change) → Type 0
 AreCallersOf [] [] = Unit {0}
 AreCallersOf (command ∷ queue) (None ∷ callers) = AreCallersOf queue callers
@@ -30,7 +30,7 @@ pub record GuardedView : Type 0 where
   pub wakes : List ℕ
   pub phase : Phase
 
--- a run is to end: ports are no longer served as they come (own)
+-- the run is to end: each port is served only until it is settled (own)
 abbrev pub ends : Phase → Bool
 ends Running = false
 ends phase = true

@@ -96,8 +96,8 @@ IsLeft {D} disk start first left =
     HasFailed (disk first.disk) (disk left)
     ⊎ ((last : JournalView D) × (published : List CommandValue) × IsWhole disk start first last published × (left ≡ last.disk))
 
--- a master does not start, and returns a disk: there is not one link for each port, and the disk is the journal's; or there is one. Then
--- memory ran out, and the disk is the journal's, or a thread could not be made, and the other threads have ended (own)
+-- a master does not start, and returns a disk. If there is not one link for each port, or memory ran out, it is that of the journal; if a
+-- thread could not be made, an ended run over the journal left it. The last two come only with one link for each port (own)
 abbrev pub IsStartFault : {D : Type 0} → (D → Disk) → Start → JournalView D → ℕ → StartFault D → Type 0
 IsStartFault disk start first links (start_fault.Ports left) = (left ≡ first.disk) × (links ≢ length start.state)
 IsStartFault disk start first links (start_fault.Memory left) = (left ≡ first.disk) × (links ≡ length start.state)

@@ -15,7 +15,7 @@ use Rattle.iol_master.specs.declared.client.ReadFault.TheVariants as read
 abbrev pub IsUnknown : State → ℕ → Type 0
 IsUnknown state port = port_numbered state port ≡ None
 
--- a core of this front, which had at least as many commands as a client had seen, refuses a command for its first cause (own)
+-- a core of this front, which had no fewer commands than a client had seen, refuses a command for its first cause (own)
 pub record IsRefused (start : Start) (seen : ℕ) (command : CommandValue) (fault : SubmitFault) : Type 0 where
   pub core : CoreView
   pub core_is : IsCore start core

@@ -30,8 +30,8 @@ abbrev pub IsEndIn : Phase → SearchResult → Type 0
 IsEndIn phase found.Closed = phase ≡ Closed
 IsEndIn phase other = Unit {0}
 
--- the flusher finds the batch that may be taken, or no memory for it. If there is no batch, it finds that none comes any more only once the
--- run is closed, and that one may come only before (own)
+-- the flusher's search takes the batch that may be taken, or finds no memory for it. If there is no batch, the result is `Closed` once the
+-- run is closed, and `Nothing` before (own)
 abbrev pub Finds : GuardedView → ℕ → GuardedView → SearchResult → Type 0
 Finds old room new (found.Batch batch) = IsTaken old.engine.core room new.engine.core batch
 Finds old room new found.Nothing = (has_batch old.engine.core ≡ false) × (old.phase ≢ Closed) × (new.engine.core ≡ old.engine.core)

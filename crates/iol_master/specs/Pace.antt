@@ -30,7 +30,7 @@ is_owing Due = false
 is_owing Begun = false
 is_owing Owing = true
 
--- a checkpoint that owes a batch comes before the next batch (own)
+-- while a batch is owed to the checkpoint, the search takes no batch, and so lacks no memory for one (own)
 abbrev pub MayFind : Checkpoint → SearchResult → Type 0
 MayFind Owing (Batch batch) = ⊥
 MayFind Owing NoMemory = ⊥

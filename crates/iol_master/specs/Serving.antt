@@ -15,16 +15,16 @@ is_off _ = false
 abbrev pub was_woken : GuardedView → ℕ → ℕ → Bool
 was_woken guarded port answered = not (slice_index guarded.wakes (port - 1) == answered)
 
--- the worker of a port sleeps, which has answered this number of wakes: its port waits for the disk; or ports are served as they come, and
--- its port is off and was not woken since (own)
+-- the worker of a port sleeps, if it has answered this number of wakes: the port waits for the disk; or the run is not to end, and the port
+-- is off and was not woken since (own)
 abbrev pub sleeps : GuardedView → ℕ → ℕ → Bool
 sleeps guarded port answered =
     waits_at guarded.engine port
     || (is_off (status_in (slice_get guarded.engine.machines (port - 1))) && not (ends guarded.phase)
     && not (was_woken guarded port answered))
 
--- a port is still served, whose worker has answered this number of wakes: it is not settled, ports are served as they come, or it was woken
--- since, as each is at the end (own)
+-- a port is still served, if its worker has answered this number of wakes: it is not settled, the run is not to end, or it was woken since,
+-- as each port is at the end (own)
 abbrev pub is_served : GuardedView → ℕ → ℕ → Bool
 is_served guarded port answered =
     not (settled_in (slice_get guarded.engine.machines (port - 1))) || not (ends guarded.phase) || was_woken guarded port answered

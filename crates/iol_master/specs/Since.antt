@@ -6,7 +6,7 @@ use Rattle.iol_flush.specs.Flushing.{IsSound}
 use Rattle.iol_flush.specs.Stages.{disk_of, failure_of}
 use Rattle.iol_flush.specs.declared.stage.FlushStage.{FlushStage}
 
--- a disk has counted a failure since, if one is reported, and none otherwise (own)
+-- between two moments a disk has counted a failure if one is reported, and none otherwise (own)
 abbrev pub CountsAs : Option DiskFault → Disk → Disk → Type 0
 CountsAs None first last = last.failures ≡ first.failures
 CountsAs (Some fault) first last = HasFailed first last

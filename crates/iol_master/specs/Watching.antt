@@ -12,15 +12,14 @@ use Rattle.iol_master.specs.declared.guarded.Phase.TheVariants.{Running, Ending,
 use Rattle.iol_master.specs.declared.watching.WatchFault.{WatchFault}
 use Rattle.iol_master.specs.declared.watching.WatchFault.TheVariants as fault
 
--- while a port has the status that a client has seen, the client gets no answer; once no port makes a step any more, it gets that fault
--- (own)
+-- the answer to a client while the port has the status that the client has seen: none, or `Ended` once no port makes a step any more (own)
 abbrev pub heard_of_same : Phase → Option (Result PortStatus WatchFault)
 heard_of_same Running = None
 heard_of_same Ending = None
 heard_of_same Closed = Some (Err fault.Ended)
 
 -- the answer to a client that has seen this status of a port: a fault if the port does not exist, its status now if that is another, and
--- else the answer for the same status (own)
+-- otherwise the answer for the same status (own)
 abbrev pub heard_of : Phase → Option PortStatus → PortStatus → Option (Result PortStatus WatchFault)
 heard_of phase None seen = Some (Err fault.UnknownPort)
 heard_of phase (Some status) seen = if same_status status seen then heard_of_same phase else Some (Ok status)
@@ -39,7 +38,7 @@ abbrev pub IsWatchFault : Start → ℕ → PortStatus → WatchFault → Type 0
 IsWatchFault start port seen fault.UnknownPort = IsUnknown start.state port
 IsWatchFault start port seen fault.Ended = IsLastReported start port seen
 
--- the final answer to a client is another status, or why there is none (own)
+-- the final answer to a client: another status, or the fault for which there is none (own)
 abbrev pub IsHeard : Start → ℕ → PortStatus → Result PortStatus WatchFault → Type 0
 IsHeard start port seen (Ok status) = IsAnother start port seen status
 IsHeard start port seen (Err why) = IsWatchFault start port seen why

@@ -62,7 +62,7 @@ impl<F: Name> Notice<F> {
 pub(crate) enum CallerAnswer<F: Name> {
     // Its change is durable.
     Durable(Notice<F>),
-    // Memory ran out for the batch of its change.
+    // Its change is not written: the flusher was out of memory for a second.
     Unwritten,
 }
 

@@ -118,8 +118,8 @@ impl<F: Name> Client<F> {
     ///
     /// # Errors
     /// `Memory`: out of memory, and nothing was requested. `Submit`: the core refuses the change, for this first cause. `Unsure`: the
-    /// disk failed meanwhile. `Unwritten`: the flusher was out of memory for a second; the command is still written once memory is
-    /// available. What the client has seen does not change.
+    /// disk failed meanwhile. `Unwritten`: the flusher was out of memory for a second; the command is still written if memory is
+    /// available before the master ends. What the client has seen does not change.
     pub fn configure<R: Wait>(
         &mut self,
         rt: &R,
@@ -313,7 +313,7 @@ fn is_same(one: &Change, other: &Change) -> bool
     one == other
 }
 
-// Submits a change to the core, once the core has as many commands as the client has seen.
+// Submits a change once the core has all commands that the client has seen, and returns the change's number.
 fn submit<F: Name, R: Wait>(
     rt: &R,
     shared: &Shared<F>,

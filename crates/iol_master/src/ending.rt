@@ -16,7 +16,8 @@ pub enum Ending<D: SectorDisk, F: Name> {
     Faulted(D, DiskFault),
 }
 
-/// The reason why a master does not start. None of its threads runs any more, and the disk may be recovered again.
+/// The reason why a master does not start. None of its threads runs any more, and the disk may be recovered again. After `Thread`, a
+/// disk call may have failed meanwhile: stop using a disk after a failed sync.
 #[derive(Drop)]
 pub enum StartFault<D: SectorDisk> {
     /// There is not one link for each port.

@@ -35,7 +35,7 @@ const MOST_WAITS: u32 = 100;
 const WAIT_MILLISECONDS: u64 = 10;
 
 /// The journal and the publisher of its list that the thread of the flusher receives. The thread makes the flusher itself: a flusher
-/// may hold a batch that is durable, and so goes into no closure. A contract sees the journal.
+/// may hold a durable batch, and so cannot be moved into a closure. A contract sees the journal.
 #[derive(Drop)]
 pub(crate) struct Charge<D: SectorDisk, F: Name> {
     journal: Journal<D>,
@@ -71,7 +71,8 @@ impl<D: SectorDisk, F: Name> Charge<D, F> {
     }
 }
 
-/// The promise of the flusher's thread: it ends with the journal that it received, continued.
+/// The promise of the flusher's thread: it continues the journal that it received, and ends with it, or with its disk after a failed
+/// call.
 #[derive(Drop)]
 pub(crate) struct FromCharge<D: SectorDisk, F: Name>(pub(crate) Snapshot<Charge<D, F>>);
 
@@ -82,7 +83,7 @@ impl<D: SectorDisk, F: Name> Promise<Ending<D, F>> for FromCharge<D, F> {
 }
 
 // Writes batches to the disk until no more commands are accepted and none waits, or until a disk call fails. If the run is to end, it
-// also ends once memory ran out for a batch or a checkpoint.
+// also ends once it has been out of memory for a second.
 pub(crate) fn flush_all<D: SectorDisk, F: Name, R: Wait + Clock + Copy>(
     rt: R,
     shared: Arc<Shared<F>, Global>,
@@ -131,7 +132,7 @@ pub(crate) enum Leaves {
 #[derive(Clone, Copy)]
 pub(crate) enum Turned {
     Made,
-    // There was no memory for a batch or for a checkpoint.
+    // There was no memory for a batch or a checkpoint, or the batch did not fit.
     Waited,
     Ended(Leaves),
 }
@@ -207,7 +208,8 @@ fn meet_need<D: SectorDisk, F: Name, R: Wait + Clock>(
     }
 }
 
-// Makes the next disk call, without the lock. If memory runs out, or the batch does not fit, the call is made again.
+// Makes the next disk call, without the lock. If it fails, no waiting caller gets a notice any more. If memory runs out, or the batch
+// does not fit, the call is made again later.
 fn call_disk<D: SectorDisk, F: Name, R: Wait>(
     rt: &R,
     shared: &Shared<F>,
@@ -260,7 +262,7 @@ fn look<F: Name>(mut guarded: MutexGuard<'_, Guarded<F>>, room: usize) -> Search
 }
 
 // Waits a while for a batch, and takes it. If none comes, the next call does not wait. If a batch is owed to the checkpoint underway,
-// looks for none.
+// it looks for none.
 fn look_again<F: Name, R: Wait + Clock>(
     rt: &R,
     shared: &Shared<F>,

@@ -11,9 +11,9 @@
 //! trace: [`run_schedule`].
 //!
 //! Modules in reading order: `caller`, the callers that wait and their answers; `guarded`, what the lock guards; `serving`, which
-//! ports sleep; `watching` and `news`, clients that wait for a status or for news; `finding` and `pace`, the flusher's search for a
+//! workers sleep; `watching` and `news`, clients that wait for a status or for news; `finding` and `pace`, the flusher's search for a
 //! batch, and how it paces a checkpoint; `client`; `flushing` and `working`, the two kinds of thread; `ending` and `settling`, how a
-//! master ends; `master`, which starts and ends them.
+//! master ends; `master`, which starts and ends its threads.
 #![tactic(auto)]
 
 mod caller;

@@ -133,7 +133,7 @@ fn end<D: SectorDisk, F: Name, R: Threads + Wait>(
     flusher.join(rt)
 }
 
-// Everything that a master allocates, made before its first thread starts.
+// Everything that a master allocates before its first thread starts.
 #[derive(Drop)]
 struct Room<L: DeviceLink + Drop, F: Name> {
     pass: Pass<F>,

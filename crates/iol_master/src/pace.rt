@@ -25,10 +25,10 @@ pub(crate) enum Checkpoint {
 }
 
 /// The flusher's pace for a due checkpoint. Before the first call of the checkpoint, the flusher waits for a batch as long as the last
-/// batch took, at most 20 ms. Once it has waited and no batch came, it does not wait again. So a client that asks again at once meets
-/// no checkpoint until no slot is free. Once the checkpoint has begun, one batch may be given before it is done. It would have to carry
-/// each further batch, and the batch that finds no free slot would wait for all of them. A contract sees the record `PaceView` of
-/// `specs/Pace.antt`.
+/// batch took, at most 20 ms. Once it has waited and no batch came, it does not wait again. So a client that sends its next change at
+/// once meets no checkpoint until no slot is free. Once the checkpoint has begun, one batch may be given before it is done. It would
+/// have to carry each further batch, and the batch that finds no free slot would wait for all of them. A contract sees the record
+/// `PaceView` of `specs/Pace.antt`.
 #[derive(Drop)]
 pub(crate) struct Pace {
     // when the batch underway was given, if the clock could be read
@@ -93,7 +93,7 @@ impl Pace {
         self.microseconds = took.map_or(0, delay_after);
     }
 
-    // Notes that no checkpoint is due.
+    // Notes that none of the next checkpoint's calls was made.
     pub(crate) fn rest(&mut self)
         ensures { self.new ≡ record self.old { checkpoint = checkpoint.Due } }
     {
@@ -126,7 +126,8 @@ fn delay_after(took: Duration) -> u64
     )
 }
 
-// A checkpoint between batches, worked out: its first call begins it, the next batch is owed to it, and nothing else changes that.
+// A worked example of a checkpoint between batches: its first call begins it, the next batch is owed to it, and nothing else changes
+// that.
 pub(crate) fn a_checkpoint_between_batches()
     ensures begun { after checkpoint.Due found.Nothing ≡ checkpoint.Begun }
     ensures calls { after checkpoint.Begun found.Nothing ≡ checkpoint.Begun }

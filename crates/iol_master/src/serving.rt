@@ -9,8 +9,8 @@ use iol_port::PortStatus;
 use iol_types::PortId;
 
 impl<F: Name> Guarded<F> {
-    // Returns whether the worker of a port sleeps, if it has answered `answered` wakes: the port waits for the disk, or, while the
-    // run goes on, it is off and was not woken since.
+    // Returns whether the worker of a port sleeps, if it has answered `answered` wakes: the port waits for the disk; or the run is not
+    // to end, and the port is off and was not woken since.
     pub(crate) fn sleeps(&self, port: PortId, answered: u64) -> bool
         ensures { result ≡ sleeps self.now port answered }
     {

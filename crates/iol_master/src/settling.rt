@@ -12,7 +12,7 @@ use iol_disk::SectorDisk;
 use iol_front::{Name, Pass, Publisher};
 use std::sync::Wait;
 
-// Leaves a master closed only if all that its flusher has published is acknowledged.
+// Returns the ending of a master. A closed one becomes `Unwritten` unless all that its flusher has published is acknowledged.
 pub(crate) fn settle<D: SectorDisk, F: Name, R: Wait>(
     rt: &R,
     shared: &Shared<F>,

@@ -50,8 +50,9 @@ pub(crate) fn served_ports<L: DeviceLink + Drop, F: Name>(
     Ok(served)
 }
 
-// Serves a port until it is settled at the end of the run. It asks the link without the lock, and the port's machine makes a step with
-// the answer under the lock. A port that is off waits until it is woken. A settled port holds no permit.
+// Serves a port until it is settled at the end of the run. It calls the link without the lock, and the port's machine makes a step with
+// the answer under the lock. The worker sleeps while the port waits for the disk, or is off and not woken. A settled port holds no
+// permit.
 pub(crate) fn serve<L: DeviceLink + Drop, F: Name, R: Wait + Copy>(
     rt: R,
     alloc: Global,
@@ -69,11 +70,11 @@ pub(crate) fn serve<L: DeviceLink + Drop, F: Name, R: Wait + Copy>(
         if !goes_on(&rt, &shared, port, &mut answered) {
             return;
         }
-        // The link is asked only once there is a buffer, so that no answer of it is lost.
+        // The link is called only once there is a buffer, so that none of its answers is lost.
         if let Some(buffer) = buffer_of(alloc, spare.take()) {
             spare = step(&rt, &shared, port, &mut link, buffer);
         }
-        // A link that answers at once is asked again at once, so other threads get the processor first.
+        // A link that answers at once is called again at once, so other threads get the processor first.
         thread::yield_now();
     }
     unreachable!()
@@ -136,7 +137,7 @@ fn has_stored(told: &PortTold) -> bool {
     matches!(&told.called, Some(Event::Accepted { .. }))
 }
 
-// Asks the link what the engine wants to know.
+// Makes the call of the link that the port's next step needs, and returns its answer.
 fn answer_of<L: DeviceLink>(link: &mut L, want: &Want) -> Answered {
     match want {
         Want::Nothing => Answered::Nothing,

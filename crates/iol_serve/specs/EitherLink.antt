@@ -4,7 +4,7 @@ use Rattle.iol_link.specs.Link.{LinkAnswer, LinkCall}
 use Rattle.iol_serve.specs.declared.either_link.EitherLink.{EitherLink}
 use Rattle.iol_serve.specs.declared.either_link.EitherLink.TheVariants.{First, Second}
 
--- the number of a link of either kind (own)
+-- the number of the connection or device of a link of either kind (own)
 abbrev pub number_of : {A B : Type 0} → (A → ℕ) → (B → ℕ) → EitherLink A B → ℕ
 number_of first second (First link) = first link
 number_of first second (Second link) = second link

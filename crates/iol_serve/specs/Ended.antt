@@ -14,7 +14,7 @@ fault_for unserved.Memory = fault.Memory
 fault_for unserved.Thread = fault.Thread
 
 -- the result of serving a master that has ended: whether all was printed, if all accepted commands are durable and requests were served.
--- Else it is that the disk failed, that memory ran out for the waiting commands, or why requests were not served, in this order (own)
+-- Otherwise: the disk failed, memory ran out for the waiting commands, or why requests were not served, in this order (own)
 abbrev pub answered : {D F A : Type 0} → Ending D F → Result A Unserved → Printed → Result Printed Fault
 answered (ending.Faulted left cause) started printed = Err fault.Disk
 answered (ending.Unwritten journal publisher) started printed = Err fault.Memory

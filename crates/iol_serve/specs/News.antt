@@ -7,7 +7,7 @@ use Rattle.iol_master.specs.declared.news.News.TheVariants as news
 use Rattle.iol_answers.specs.declared.event.Event.{Event}
 use Rattle.iol_answers.specs.declared.event.Event.TheVariants as event
 
--- the event says what is new (own)
+-- the event reports what is new (own)
 abbrev pub SaysNews : News → Event → Type 0
 SaysNews (news.Status port status) said = said ≡ event.Status port status
 SaysNews (news.Durable number) said = said ≡ event.Durable number
@@ -28,7 +28,7 @@ abbrev pub told_with : List PortStatus → News → List PortStatus
 told_with told (news.Status port status) = slice_set told (port - 1) status
 told_with told (news.Durable number) = told
 
--- if news gets an event, the event says it, and the statuses of the last events follow; if not, there is no event, and they stay (own)
+-- if news gets an event, the event reports it, and the statuses of the last events follow; if not, there is no event, and they stay (own)
 abbrev pub Tells : List PortStatus → News → Option Event → List PortStatus → Type 0
 Tells before news (Some event) after = AreTold before news × SaysNews news event × (after ≡ told_with before news)
 Tells before news None after = (AreTold before news → ⊥) × (after ≡ before)

@@ -74,7 +74,7 @@ abbrev pub IsPortAnswer : ℕ → Port → RequestAnswer → Type 0
 IsPortAnswer port state (answer.Port number told) = (number ≡ port) × (told.now ≡ state)
 IsPortAnswer port state other = ⊥
 
--- the answer says the outcome of a task (own)
+-- the answer reports the outcome of a task (own)
 abbrev pub SaysOutcome : Outcome → RequestAnswer → Type 0
 SaysOutcome (Durable number) said = said ≡ answer.Receipt number
 SaysOutcome (Found port view) said = IsPortAnswer port view.port said

@@ -1,8 +1,8 @@
 -- The time for which a call waits for a driver.
 use Rattle.std.specs.Prelude.{◌≡◌, ◌-◌, ◌<◌, ◌≤◌, ℕ, Option, Some, None, min}
 
--- the longest wait, in milliseconds, before a call looks again whether the master is to end; a call waits no longer than this from then on
--- (own)
+-- the longest wait, in milliseconds, before a call checks again whether the master is to end; if it is, the call waits no longer than this
+-- from then on (own)
 abbrev pub longest_part : ℕ
 longest_part = 50
 

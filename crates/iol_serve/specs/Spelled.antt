@@ -19,7 +19,7 @@ IsSameId (id.Number number) (given.Number again) = again ≡ number
 IsSameId (id.Text text) (given.Text again) = again.now ≡ string_bytes text
 IsSameId one other = ⊥
 
--- the answer gives back the id if there is one, and else none (format, Requests)
+-- the answer gives back the id if there is one, and otherwise none (format, Requests)
 abbrev pub IsGivenBack : Option Id → Option RequestId → Type 0
 IsGivenBack None None = Unit {0}
 IsGivenBack (Some id_) (Some again) = IsSameId id_ again

@@ -86,7 +86,7 @@ impl Outcome {
         matches!(self, Outcome::Refused(Refusal::Behind))
     }
 
-    // Returns the answer that says this outcome.
+    // Returns the answer that reports this outcome.
     fn answer(&self) -> RequestAnswer<'_>
         ensures { SaysOutcome self.now result }
     {
@@ -135,8 +135,8 @@ fn call_refusal(fault: CallFault) -> Refusal
     }
 }
 
-// Reads the durable state of a port. While fewer commands are acknowledged than the client has seen, it reads again, for a second;
-// that state passes.
+// Reads the durable state of a port. If the core has acknowledged fewer commands than the client has seen, which passes, it reads
+// again, for a second.
 fn read<F: Name, R: Wait + Clock>(rt: &R, client: &mut Client<F>, port: PortId) -> Outcome
     ensures kept { IsPrefix client.old client.new }
     ensures outcome { HasRead F.front.start client.old client.new port result }

@@ -44,8 +44,8 @@ pub struct Serving<'a> {
 }
 
 /// Serves a master on the image file at `path` until no more is requested, and returns the exit status. It is 0 once the master has
-/// ended and all is printed, 2 if the script of devices is not valid, and else 1. If the command fails, a line on `err` says why. All
-/// files are those of `files`; two threads for each driver open its files, read and write them.
+/// ended and all is printed, 2 if the script of devices is not valid, and otherwise 1. If the command fails, a line on `err` says why;
+/// if printing fails, no line does. All files are those of `files`; two threads for each driver open its files, read and write them.
 pub fn serve_image<
     R: AllocGlobal + Threads + Wait + Clock + Copy + Send + 'static,
     I: Read + Drop + Send + 'static,
@@ -68,7 +68,7 @@ pub fn serve_image<
     }
 }
 
-// Serves a master. The script of devices is judged before the image is opened.
+// Serves a master. The script of devices is checked before the image is opened.
 fn serve_file<
     'a,
     R: AllocGlobal + Threads + Wait + Clock + Copy + Send + 'static,
@@ -248,7 +248,8 @@ fn has_device(devices: &[Device], port: PortId) -> bool {
 /// A link to a driver, or to simulated devices.
 type PortLink<R> = PacedLink<EitherLink<WireLink<FileTransport<R>>, SimLink>, R>;
 
-// Makes the link of each port, port 1 first: to its driver, or else to the simulated devices at the port, of which there may be none.
+// Makes the link of each port, port 1 first: to its driver, or otherwise to the simulated devices at the port, of which there may be
+// none.
 fn port_links<R: Threads + Wait + Clock + Copy + Send + 'static>(
     rt: &R,
     files: HostRuntime,

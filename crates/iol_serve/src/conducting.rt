@@ -21,7 +21,7 @@ use std::thread;
 use std::thread::{JoinHandle, Threads};
 use std::time::Clock;
 
-/// A master that is served, as it started.
+/// The ports and the number of a served master at its start, and how its events are printed.
 #[derive(Clone, Copy)]
 pub(crate) struct Served {
     pub(crate) ports: u8,
@@ -98,7 +98,7 @@ pub(crate) fn conduct<
         Ok(_) => serve(rt, alloc, &mut master, served, heard, &printer),
         Err(unserved) => Err(*unserved),
     };
-    // Links to silent drivers wait no longer.
+    // Calls of links to drivers see this, and soon stop waiting.
     ending.store(true, Ordering::SeqCst);
     let ending = master.shutdown(rt);
     if let Ok(reporter) = reporter {

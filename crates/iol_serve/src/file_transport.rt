@@ -42,7 +42,7 @@ pub(crate) struct FileTransport<R: Wait + Clock> {
 }
 
 impl<R: Threads + Wait + Clock + Copy + Send + 'static> FileTransport<R> {
-    // Starts the threads that read and write the files at these paths. They end with the program.
+    // Starts the threads that read and write the files at these paths. Nobody waits for their end.
     pub(crate) fn start(
         rt: R,
         files: HostRuntime,
@@ -124,7 +124,8 @@ impl<R: Wait + Clock> FileTransport<R> {
         }
     }
 
-    // Returns whether octets were dropped for so long that the driver never rests, or whether the master is to end.
+    // Returns whether no more octets are to be dropped: this went on for so long that the driver never rests, the master is to
+    // end, or the clock cannot be read.
     fn has_dropped_long(&self, began: Option<Instant>) -> bool {
         if self.patience.is_ending() {
             return true;

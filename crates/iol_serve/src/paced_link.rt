@@ -11,7 +11,7 @@ use std::time::{Clock, Duration, Instant};
 /// processors busy.
 pub const CYCLE_MILLISECONDS: u64 = 20;
 
-/// A link whose reads of the page are at least `CYCLE_MILLISECONDS` apart. In all else it is the link that it holds.
+/// A link whose reads of the page are at least `CYCLE_MILLISECONDS` apart. Otherwise it is the link that it holds.
 #[derive(Drop)]
 pub struct PacedLink<L: DeviceLink, R: Clock> {
     link: L,
@@ -36,7 +36,7 @@ impl<L: DeviceLink, R: Clock> PacedLink<L, R> {
         }
     }
 
-    // Returns the time that is left until then, if the clock can be read.
+    // Returns the time that is left to wait, or `None` if the page was not read before or the clock cannot be read.
     fn left(&self) -> Option<Duration> {
         let passed = self.read?.elapsed(&self.rt).ok()?;
         Some(Duration::from_millis(CYCLE_MILLISECONDS).saturating_sub(passed))

@@ -7,11 +7,11 @@ use std::sync::Arc;
 use std::sync::atomic::{AtomicBool, Ordering};
 use std::time::{Clock, Duration, Instant};
 
-/// The longest wait, in milliseconds, before a call looks again whether the master is to end. A call waits no longer
-/// than this from then on.
+/// The longest wait, in milliseconds, before a call checks again whether the master is to end. If it is, the call waits no
+/// longer than this from then on.
 const PART_MILLISECONDS: u64 = 50;
 
-/// The time for which a call waits: as long as a driver may be silent, and only 50 ms more once the master is to
+/// The time for which a call waits: as long as a driver may be silent, and only 50 ms more once it sees that the master is to
 /// end.
 #[derive(Drop)]
 pub(crate) struct Patience {

@@ -186,7 +186,7 @@ fn print_all<W: Write, R: Wait>(
     Printed::Whole
 }
 
-// Writes a text by one write, if the system takes it whole.
+// Writes a text in one write, if the system takes it whole.
 fn write<W: Write>(out: &mut W, text: &Text) -> io::Result<()> {
     out.write_all(text.as_bytes())?;
     out.flush()

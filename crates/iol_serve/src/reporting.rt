@@ -42,7 +42,7 @@ impl<F: Name> Reporter<F> {
         })
     }
 
-    // Returns the event that says what is new. There is none if a port looks again for a device that it has lost, or if it has
+    // Returns the event that reports what is new. There is none if a port looks again for a device that it has lost, or if it has
     // the status of its last event.
     fn event_of(&mut self, news: News) -> Option<Event>
         ensures { Tells self.old.told.items news result self.new.told.items }
@@ -53,7 +53,7 @@ impl<F: Name> Reporter<F> {
         }
     }
 
-    // Returns the event that says a new status of a port, if it gets one. The port's last event is then this one.
+    // Returns the event that reports a new status of a port, if it gets one. The port's last event is then this one.
     fn status_event(&mut self, port: PortId, status: PortStatus) -> Option<Event>
         ensures { Tells self.old.told.items (Status port status) result self.new.told.items }
     {

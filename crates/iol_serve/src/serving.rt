@@ -36,12 +36,13 @@ pub struct Conversation<I, W> {
 }
 
 /// Serves a master over a journal that was just recovered, with its state and a link for each port, until no more is requested. Answers
-/// and events are printed as they come. `ending` is set once all requests are answered, and before the ports are to settle. A thread
-/// that still waits for a line is left behind then.
+/// and events are printed as they come. `ending` is set once all requests are answered, and before the ports are to settle. The thread
+/// that reads is not joined, since it may still wait for a line.
 ///
 /// # Errors
-/// `Memory` and `Thread`, after which nothing more is served, and `Disk` if a disk call failed. What has a receipt is durable in each
-/// case.
+/// `Memory` or `Thread` if the master or the threads that read and print do not start. Then `Disk` if a disk call failed, `Memory` if
+/// memory ran out for the waiting commands, and `Memory` or `Thread` if requests could not be served. What has a receipt is durable in
+/// each case.
 pub fn serve<
     D: SectorDisk + Drop + Send + 'static,
     L: DeviceLink + Drop + Send + 'static,

@@ -19,8 +19,8 @@ use std::sync::Wait;
 use std::thread::Threads;
 use std::time::Clock;
 
-// Carries out the command that the program's words name, and returns the exit status: 2 if the words are wrong, 0 for
-// help and the version, and else that of the command.
+// Carries out the command that the program's words name, and returns its exit status. Without a command it is 2 if the words
+// are wrong, 0 once the help or the version is printed, and otherwise 1.
 pub(crate) fn run_program<
     R: Files<File = File> + AllocGlobal + Threads + Wait + Clock + Copy + Send + 'static,
 >(rt: &R, host: HostRuntime) -> u8
@@ -123,7 +123,7 @@ fn answer_script(rt: &HostRuntime, path: &str, what: OnScript) -> u8
     }
 }
 
-// A run's text is written as it is made, by a buffer of fixed size, which is made before the run.
+// Runs a script. Its text is written as it is made, through a buffer of fixed size that is allocated before the run.
 fn run_script(rt: &HostRuntime, script: &[u8]) -> u8
     ensures { result ≤ 2 }
 {
@@ -132,7 +132,7 @@ fn run_script(rt: &HostRuntime, script: &[u8]) -> u8
         return report(&mut err, &Fault::Memory);
     };
     let status = run_text(alloc, script, &mut out, &mut err);
-    // The run has flushed its text. Where that failed, nothing more is written.
+    // The run has flushed its text. If that failed, nothing more is written.
     let _ = out.into_parts();
     status
 }

@@ -7,7 +7,7 @@
 //! - `words` reads the words of all commands, `serve_words` those of `serve`, and `port_files` the files of drivers among them. Tests
 //!   cover what words ask for (`tests/words.cases`): no contract repeats the words of `clap`.
 //! - `arguments` carries out what words ask for, `serving` carries out `serve`, `script_file` reads a script from its file, and
-//!   `version` has what `--version` prints.
+//!   `version` has the text of `--version`.
 #![tactic(auto)]
 
 mod arguments;

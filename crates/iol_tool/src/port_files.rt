@@ -60,7 +60,7 @@ pub(crate) fn all_port_files<'a>(
     Ok(files)
 }
 
-// Returns whether a port is among these.
+// Returns whether a port is named among these files.
 fn is_named(files: &[PortFiles<'_>], port: PortId) -> bool {
     files.iter().any(|files| files.port == port)
 }

@@ -20,7 +20,7 @@ pub(crate) struct ServeWords<'a> {
     pub(crate) silence: u16,
 }
 
-// The number of seconds that a driver may be silent if the words do not say it.
+// The number of seconds that a driver may be silent if the words do not give it.
 const USUAL_SILENCE: u16 = 10;
 
 // The notes after the options of `serve`.

@@ -50,7 +50,7 @@ fn spelling_of(words: &ServeWords<'_>) -> Spelling {
     }
 }
 
-// Shows a prompt only to somebody who enters requests at a terminal.
+// Returns whether a prompt is shown: only to a person who enters requests at a terminal.
 fn prompt_of(rt: &HostRuntime) -> Prompt {
     if rt.stdin().is_terminal() {
         Prompt::Shown

@@ -335,7 +335,7 @@ fn script<'a>(alloc: Global) -> Arg<'a> {
     word(alloc, "SCRIPT", "The path of a script in TOML")
 }
 
-// Describes a word without which the words are refused.
+// Describes a required argument.
 fn word<'a>(alloc: Global, name: &'a str, help: &'a str) -> Arg<'a> {
     Arg::new(alloc, name).required(true).help(help)
 }
@@ -348,7 +348,7 @@ pub(crate) fn flag<'a>(alloc: Global, name: &'a str, help: &'a str) -> Arg<'a> {
         .help(help)
 }
 
-// Describes an option with a whole number, 0 to 65,535.
+// Describes a required option with a whole number, 0 to 65,535.
 fn count<'a>(alloc: Global, name: &'a str, help: &'a str) -> Arg<'a> {
     Arg::new(alloc, name)
         .long(name)
@@ -358,12 +358,12 @@ fn count<'a>(alloc: Global, name: &'a str, help: &'a str) -> Arg<'a> {
         .help(help)
 }
 
-// Returns the value of an argument without which clap refuses the words.
+// Returns the value of a required argument: without one clap refuses the words.
 pub(crate) fn text<'a>(matches: &ArgMatches<'a>, name: &str) -> &'a str {
     matches.get_str(name).unwrap_or("")
 }
 
-// Returns the number of an option without which clap refuses the words.
+// Returns the number of a required option: without one clap refuses the words.
 fn number(matches: &ArgMatches<'_>, name: &str) -> u16 {
     matches.get_one::<u16>(name).unwrap_or(0)
 }

@@ -7,7 +7,7 @@ use Rattle.iol_draw.specs.Drawn.{TellsDrawn}
 use Rattle.iol_explain.specs.Played.{IsExplained}
 use Rattle.iol_draw.proofs.command.drawn_run.Goals as goal
 
--- the line counts the events of the run that was played
+-- the line has the number of events of the run that was made
 pub returns-clause-printed : goal.returns-clause-printed
 returns-clause-printed c =
     let explained = c.in_ok-explained.explained in
@@ -21,7 +21,7 @@ returns-clause-printed c =
     })
     c.drawing_of.ensures.printed
 
--- memory may run out over any text
+-- for any script memory may run out
 pub returns-clause-cause : goal.returns-clause-cause
 returns-clause-cause c =
     let text = c.args.script.now in

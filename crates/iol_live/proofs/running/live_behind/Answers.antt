@@ -6,7 +6,7 @@ use Rattle.iol_flush.specs.Flushing.{Rests}
 use Rattle.iol_live.specs.Lived.{IsAfterWhatIsThere, IsRunCause}
 use Rattle.iol_live.proofs.running.live_behind.Goals as goal
 
--- the master is the journal that it was started with
+-- contracts see the master as the journal that it was started with
 pub live_with-requires : goal.live_with-requires
 live_with-requires g c =
     let start : g.F.Name.front.start

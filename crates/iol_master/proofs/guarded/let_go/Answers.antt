@@ -9,7 +9,7 @@ use Rattle.iol_master.proofs.guarded.let_go.Goals as goal
 pub loop-init : goal.loop-init
 loop-init g c = record { none = ap (map asked) c.clear.ensures.items; room = c.clear.ensures.capacity }
 
--- one place more
+-- one more place is kept
 pub loop-preserved : goal.loop-preserved
 loop-preserved g c =
     let filled : length c.loop.callers.items ≡ c.loop.counter =

@@ -3,7 +3,7 @@ use Rattle.std.specs.VecDeque.{deque_capacity}
 use Rattle.iol_master.specs.Callers.{asked}
 use Rattle.iol_master.proofs.guarded.let_go.Given as goal
 
--- so many places are kept
+-- `counter` places are kept, without callers
 abbrev pub invariant-loop : goal.invariant-loop
 invariant-loop g l = record {
   none : map asked l.callers.items ≡ replicate l.counter None;

@@ -5,7 +5,7 @@ use Rattle.iol_front.specs.Fronts.{CommittedView}
 use Rattle.iol_master.proofs.Notices.{stands_at}
 use Rattle.iol_master.proofs.guarded.tell.Goals as goal
 
--- the command stands at the number of its place
+-- the command has the number of its place in the batch
 pub new-notice-requires-after_bounds : goal.new-notice-requires-after_bounds
 new-notice-requires-after_bounds g c lifetimes outlives =
     let start = g.F.Name.front.start in

@@ -8,7 +8,7 @@ use Rattle.iol_master.proofs.Waiting.{asked_at, dropped_next, first_behind, take
 use Rattle.iol_master.proofs.guarded.tell_all.Goals as goal
 use Rattle.iol_master.proofs.guarded.tell_all.Goals.{in-Some-Some, in-Some+in-None-1, in-None-1}
 
--- who is at this place asked for the command at this place
+-- the caller at this place requested the command at this place
 pub tell-requires-after_bounds : goal.tell-requires-after_bounds
 tell-requires-after_bounds g c lifetimes outlives =
     let all : List (Option Change) = map asked c.args.callers.now.items in
@@ -25,7 +25,7 @@ tell-requires-after_bounds g c lifetimes outlives =
     ap (λ (batch : CommittedView). slice_get batch.commands place) c.loop-place.invariant.same
     ∙ asked_at commands (take (length commands) all) place change c.requires there
 
--- one more was told, or is not there to be told
+-- one more caller got its notice, or the place has no caller
 pub loop-place-preserved : goal.loop-place-preserved
 loop-place-preserved g c =
     let all : List (Option Change) = map asked c.args.callers.now.items in

@@ -3,7 +3,7 @@ use Rattle.std.specs.VecDeque.{deque_capacity}
 use Rattle.iol_master.specs.Callers.{asked}
 use Rattle.iol_master.proofs.guarded.tell_all.Given as goal
 
--- so many callers were told
+-- the callers at the first `place` places are removed, and the others are left
 abbrev pub invariant-loop-place : goal.invariant-loop-place
 invariant-loop-place g l = record {
   same : l.committed ≡ l.initial.committed;

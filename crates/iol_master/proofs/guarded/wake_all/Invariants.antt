@@ -2,7 +2,7 @@ use Rattle.std.proofs.Common.{◌≡◌, ℕ, ◌<◌, ◌≤◌, length, get_or
 use Rattle.iol_master.specs.Wakes.{woken_again}
 use Rattle.iol_master.proofs.guarded.wake_all.Given as goal
 
--- the ports so far are woken, and the others not yet
+-- the ports so far are woken, and the others are not woken yet
 abbrev pub invariant-loop-count : goal.invariant-loop-count
 invariant-loop-count l = record {
   length : length l.wakes ≡ length l.fn.wakes;

@@ -4,7 +4,7 @@ use Rattle.iol_master.specs.Endings.{IsEnding}
 use Rattle.iol_master.specs.declared.flushing.FromCharge.{FromCharge}
 use Rattle.iol_master.proofs.master.begin.Goals as goal
 
--- the flusher's work is done here, where no thread is made for it
+-- if no thread is made for the flusher, the thread that starts the master does its work
 pub returns-in-Err-clause-fault : goal.returns-in-Err-clause-fault
 returns-in-Err-clause-fault g c =
     let same : c.in-Err.refused.value.2 ≡ c.args.charge = ap (λ f. f.2) c.in-Err.ensures.err in (
@@ -14,7 +14,7 @@ returns-in-Err-clause-fault g c =
       refl,
     )
 
--- where a worker's thread is not made, those that were are ended as by `shutdown`
+-- if a worker's thread is not made, the threads that were started are ended as by `shutdown`
 pub returns-in-Err-start_workers-clause-fault : goal.returns-in-Err-start_workers-clause-fault
 returns-in-Err-start_workers-clause-fault g c =
     let promise : c.in-Ok.flusher.promise.0.value ≡ c.args.charge =

@@ -1,7 +1,7 @@
 use Rattle.std.proofs.Common.{◌≡◌, ◌+◌, ◌≤◌, vec_capacity, vec_len}
 use Rattle.iol_master.proofs.master.start_workers.Given as goal
 
--- there is room for each that is left, and with those that are left there are as many as ports
+-- the list of workers has capacity for the ports that are left, and workers and ports left are together the number of ports
 abbrev pub invariant-loop-port : goal.invariant-loop-port
 invariant-loop-port g l = record {
   room : vec_len l.workers + vec_len l.served ≤ vec_capacity l.workers;

@@ -3,7 +3,7 @@ use Rattle.iol_master.specs.declared.working.ServedPort.{ServedPort}
 use Rattle.iol_master.proofs.ServedOver.{longer_by_one, over_more, port_more}
 use Rattle.iol_master.proofs.working.served_ports.Goals as goal
 
--- one more link is served, by the port with the next number
+-- one more link is served, by the port with the next number if there is one
 pub loop-link-preserved : goal.loop-link-preserved
 loop-link-preserved g c =
     let so_far = c.loop-link.invariant in

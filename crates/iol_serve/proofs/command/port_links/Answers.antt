@@ -10,7 +10,7 @@ one_fewer : {A : Type 0} (popped : Option A) (before after place ports : ℕ) �
 one_fewer (Some link) before after place ports all within is_some left = omega (arith, all, left)
 one_fewer None before after place ports all within is_some left = absurd (false≢true (is_some.1 (omega (arith, all, within))))
 
--- a link is made of each one that is taken
+-- one link is made for each simulated link that is taken
 pub loop-place-preserved : goal.loop-place-preserved
 loop-place-preserved g c = record {
   links = elim c.match-pop.branch [

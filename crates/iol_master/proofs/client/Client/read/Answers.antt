@@ -8,7 +8,7 @@ use Rattle.iol_headline.proofs.Lists.{sets_uploaded}
 use Rattle.iol_headline.specs.Lists.{IsLawfulList, SetsWereUploaded}
 use Rattle.iol_master.proofs.client.Client.read.Goals as goal
 
--- a port that is answered after a lawful list has the sets of that list
+-- the port in a view after a lawful list has the sets of that list
 sets_of : {E : Type 0} (start : Start) (seen : List CommandValue) (port : ℕ) (answer : Result View E)
     → IfOk answer (λ (view : View). IsLawfulList start view.number (take (view.number - start.number) seen))
     → IfOk answer (λ (view : View). port_numbered (state_at start seen view.number) port ≡ Some view.port)

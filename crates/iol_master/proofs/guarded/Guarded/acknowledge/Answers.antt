@@ -8,7 +8,7 @@ use Rattle.iol_master.specs.Callers.{AreCallersOf, GuardedView, asked}
 use Rattle.iol_master.proofs.Waiting.{core_acknowledged, core_strange, first_callers, not_strange, on_ok, other_callers, taken_places}
 use Rattle.iol_master.proofs.guarded.Guarded.acknowledge.Goals as goal
 
--- who waits for a command of the batch asked for it
+-- each caller that waits for a command of the batch requested it
 pub tell_all-requires-after_bounds : goal.tell_all-requires-after_bounds
 tell_all-requires-after_bounds g c lifetimes outlives =
     let i = c.self.inside in
@@ -19,7 +19,7 @@ tell_all-requires-after_bounds g c lifetimes outlives =
     (sym (taken_places i.engine.core.flight i.engine.core.queue callers c.self.invariant.0).0)
     (first_callers i.engine.core.flight i.engine.core.queue callers c.self.invariant.0))
 
--- the others wait on
+-- the other callers continue to wait
 pub invariant_of-self : goal.invariant_of-self
 invariant_of-self g c =
     let i = c.self.inside in

@@ -5,7 +5,7 @@ use Rattle.iol_master.specs.Callers.{asked}
 use Rattle.iol_master.proofs.Waiting.{nobody_left}
 use Rattle.iol_master.proofs.guarded.Guarded.fail.Goals as goal
 
--- each place is kept, and nobody waits there
+-- each place is kept, and no caller waits there
 pub invariant_of-self : goal.invariant_of-self
 invariant_of-self g c =
     let i = c.self.inside in (

@@ -6,7 +6,7 @@ use Rattle.iol_master.specs.Callers.{AreCallersOf, asked}
 use Rattle.iol_master.proofs.Waiting.{as_many, handed_waits, not_taken}
 use Rattle.iol_master.proofs.guarded.Guarded.step.Goals as goal
 
--- the Store that was taken has a place, for which nobody waits
+-- the accepted Store has a place without a caller
 pub invariant_of-self : goal.invariant_of-self
 invariant_of-self g c =
     let i = c.self.inside in
@@ -44,7 +44,7 @@ unreachable-requires g c =
     )))
     c.in_default.is
 
--- else as many wait as before
+-- without an accepted command the callers stay the same
 pub invariant_of-self-else-before-live_number : goal.invariant_of-self-else-before-live_number
 invariant_of-self-else-before-live_number g c =
     let i = c.self.inside in

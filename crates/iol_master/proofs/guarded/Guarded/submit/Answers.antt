@@ -10,7 +10,7 @@ use Rattle.iol_master.specs.Wakes.{woken}
 use Rattle.iol_master.proofs.Waiting.{as_many, not_taken, submit_room, waits_more, woken_as_many, written_back}
 use Rattle.iol_master.proofs.guarded.Guarded.submit.Goals as goal
 
--- the queue has room, and so has the list of those who wait
+-- the queue is not full, so the list of callers has capacity for one more
 pub unreachable-requires : goal.unreachable-requires
 unreachable-requires g c =
     let i = c.self.inside in
@@ -26,7 +26,7 @@ unreachable-requires g c =
     )))
     c.in_default.is
 
--- who waits for the new command asked for it
+-- the caller that waits for the new command requested it
 pub invariant_of-self-2 : goal.invariant_of-self-2
 invariant_of-self-2 g c =
     let i = c.self.inside in
@@ -39,7 +39,7 @@ invariant_of-self-2 g c =
       omega (arith, c.self.invariant.1, c.in-Ok.ensures.capacity),
     )
 
--- a command that is refused changes nobody's place
+-- a refused command changes no caller's place
 pub invariant_of-self : goal.invariant_of-self
 invariant_of-self g c = (
   subst (λ (core : CoreView). AreCallersOf core.queue (map asked c.self.inside.callers.items)) (sym c.in_err-ticket.ensures.submit.1)
