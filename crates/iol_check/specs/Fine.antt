@@ -1,4 +1,4 @@
--- What is printed for a script that can be run.
+-- The text that is printed for a script that can be run.
 use Rattle.std.specs.Prelude.{◌≡◌, ◌==◌, ℕ, ℤ, pos, negsuc, if◌then◌else◌, List, ◌++◌, length, codes, Some}
 use Rattle.std.specs.Fmt.{decimal}
 use Rattle.iol_script.specs.Script.{Said, said_in}
@@ -22,7 +22,7 @@ counts_line ports slots devices steps =
 abbrev pub fine_line : Said → List ℕ
 fine_line said = counts_line (count_of said.ports) (count_of said.slots) (length said.devices) (length said.steps)
 
--- what is printed is the line of the script of a text, and notes after it (format, Check)
+-- the printed text is the line of the script of a text, and notes after it (format, Check)
 pub record TellsFine (text printed : List ℕ) : Type 0 where
   pub said : Said
   pub says : said_in text ≡ Some said

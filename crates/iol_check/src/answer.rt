@@ -11,7 +11,7 @@ use iol_commands::{Fault, read_playable};
 use iol_script::Script;
 use std::alloc::{AllocError, Global};
 
-// What is printed for a text.
+// The answer to a text: the lines that are printed for it.
 #[derive(Drop)]
 pub enum CheckAnswer {
     // The text can be run: its line, and notes.
@@ -20,7 +20,7 @@ pub enum CheckAnswer {
     Mistakes(String),
 }
 
-// The answer to a text. Whether the text can be run is decided by the same call that a run makes.
+// Returns the answer to a text. The same call that a run makes decides whether it can be run.
 pub(crate) fn answer_to(alloc: Global, text: &[u8]) -> Result<CheckAnswer, AllocError>
     ensures { IfOk result (IsAnswer text.now) }
 {
@@ -34,7 +34,7 @@ pub(crate) fn answer_to(alloc: Global, text: &[u8]) -> Result<CheckAnswer, Alloc
     }
 }
 
-// The line of the script of a text, and the notes on it.
+// Returns the line of the script of a text, and the notes on it.
 fn fine_text(alloc: Global, text: &[u8], script: &Script) -> Result<String, AllocError>
     requires { said_in text.now ≡ Some (said_of script.now) }
     ensures { IfOk result (λ printed. TellsFine text.now (string_bytes printed)) }

@@ -12,7 +12,7 @@ pub(crate) enum Role {
 }
 
 impl Role {
-    // The role of the tables in the array at a key of the script.
+    // Returns the role of the tables in the array at a key of the script.
     pub(crate) fn of_array(key: Option<Key>) -> Option<Role> {
         match key {
             Some(Key::Device) => Some(Role::Device),
@@ -52,7 +52,7 @@ pub(crate) struct Entry {
 }
 
 impl Entry {
-    // The word of its key alone. For a header below a table, this is the key after that of the table.
+    // Returns the word of its key alone. For a header below a table, this is the key after that of the table.
     pub(crate) fn word(self, text: &str) -> &str {
         let name = self.name.of(text);
         let keys = name.trim_start_matches('[').trim_end_matches(']');

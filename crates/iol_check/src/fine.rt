@@ -7,7 +7,7 @@ use iol_script::Script;
 use std::alloc::{AllocError, Global};
 use std::fmt;
 
-// The line with the counts of a script.
+// Returns the line with the counts of a script.
 pub(crate) fn fine_line(alloc: Global, script: &Script) -> Result<String, AllocError>
     ensures { IfOk result (λ line. string_bytes line ≡ fine_line (said_of script.now)) }
 {
@@ -20,7 +20,7 @@ pub(crate) fn fine_line(alloc: Global, script: &Script) -> Result<String, AllocE
     counts.to_string(alloc)
 }
 
-// A whole number as a count, which is 0 if the number is negative.
+// Returns a whole number as a count, which is 0 if the number is negative.
 fn count_of(number: i64) -> usize
     ensures { result ≡ count_of number }
 {

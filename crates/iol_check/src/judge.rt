@@ -149,7 +149,7 @@ impl<'t> Judge<'t> {
         }
     }
 
-    // Whether a value is right at its key. The values of an array are checked one by one, and so are its tables.
+    // Returns whether a value is right at its key. The values of an array are checked one by one, and so are its tables.
     fn is_right(&self, kind: Kind, key: Key, entry: Entry) -> Result<bool, AllocError> {
         if entry.form == Form::Subtable {
             return Ok(false);
@@ -164,12 +164,13 @@ impl<'t> Judge<'t> {
         is_right(self.alloc, ports, kind, key, entry.value.of(self.text))
     }
 
-    // The number of ports of the script, or the largest number that it may have if it has no valid one.
+    // Returns the number of ports of the script, or the largest number that it may have if it has no valid one.
     fn most_ports(&self) -> i64 {
         self.ports.unwrap_or(i64::from(PORTS))
     }
 
-    // The number of ports by which its slots are checked. If it has no valid one, this is 1, which needs the fewest slots.
+    // Returns the number of ports by which the script's slots are checked. If it has no valid one, this is 1, which needs the
+    // fewest slots.
     fn fewest_ports(&self) -> i64 {
         self.ports.unwrap_or(1)
     }
@@ -226,7 +227,7 @@ impl<'t> Judge<'t> {
         value.inside(self.text, '[').is_some()
     }
 
-    // The kind of the table of an entry, or `None` for an unknown step.
+    // Returns the kind of the table of an entry, or `None` for an unknown step.
     fn kind_of(&self, entry: Entry) -> Result<Option<Kind>, AllocError> {
         match entry.role {
             Role::Script => Ok(Some(Kind::Script)),
@@ -238,7 +239,7 @@ impl<'t> Judge<'t> {
         }
     }
 
-    // The first entry of a table with this key.
+    // Returns the first entry of a table with this key.
     pub(crate) fn entry_at(&self, table: usize, key: Key) -> Option<Entry> {
         for entry in self.entries.as_slice().get(table..).unwrap_or(&[]) {
             if entry.table == table && entry.key == Some(key) {
@@ -248,7 +249,7 @@ impl<'t> Judge<'t> {
         None
     }
 
-    // Whether the table of the entry with this number has the same key before it.
+    // Returns whether the table of the entry with this number has the same key before it.
     fn stands_before(&self, number: usize, entry: Entry) -> bool {
         for other in self
             .entries
@@ -264,7 +265,7 @@ impl<'t> Judge<'t> {
         false
     }
 
-    // Unknown keys are the same if they are spelled the same.
+    // Returns whether two entries have the same key. Unknown keys are the same if they are spelled the same.
     fn is_same_key(&self, one: Entry, other: Entry) -> bool {
         match (one.key, other.key) {
             (Some(key), Some(other)) => key == other,
@@ -273,7 +274,7 @@ impl<'t> Judge<'t> {
         }
     }
 
-    // Whether no step follows the step of an entry.
+    // Returns whether no step follows the step of an entry.
     fn is_last_step(&self, entry: Entry) -> bool {
         for other in self.entries.as_slice().get(entry.table..).unwrap_or(&[]) {
             if other.role == Role::Step && other.table != entry.table {
@@ -284,7 +285,7 @@ impl<'t> Judge<'t> {
     }
 }
 
-// What is allowed at a key, if a table of this kind needs that key.
+// Returns what is allowed at a key, if a table of this kind needs that key.
 fn needed(kind: Kind, key: Key) -> Option<May> {
     let rule = kind.rule(key)?;
     if rule.needed.is_some() {
@@ -294,7 +295,7 @@ fn needed(kind: Kind, key: Key) -> Option<May> {
     }
 }
 
-// Whether the value of a key is an array.
+// Returns whether the value of a key is an array.
 fn has_array(kind: Kind, key: Key) -> bool {
     match kind {
         Kind::Script => matches!(key, Key::Device | Key::Step),
@@ -303,7 +304,7 @@ fn has_array(kind: Kind, key: Key) -> bool {
     }
 }
 
-// The step that is named by a value as it is in the text.
+// Returns the step that is named by a value as it is in the text.
 fn step_named(alloc: Global, value: &str) -> Result<Option<Kind>, AllocError> {
     match Value::from_str(alloc, value) {
         Ok(value) => Ok(step_of(&value)),
@@ -316,7 +317,7 @@ fn step_of(value: &Value) -> Option<Kind> {
     Kind::of_step(value.as_str()?)
 }
 
-// The value at `ports`, or an empty part if there is none.
+// Returns the value at `ports`, or an empty part if there is none.
 fn ports_value(entries: &[Entry]) -> Part {
     for entry in entries {
         let is_ports = entry.role == Role::Script && entry.key == Some(Key::Ports);

@@ -52,7 +52,7 @@ pub(crate) const KEYS: [Key; 21] = [
 ];
 
 impl Key {
-    // The key with this name.
+    // Returns the key with this name, if there is one.
     pub(crate) fn named(name: &str) -> Option<Key> {
         for key in KEYS {
             if key.name() == name {
@@ -62,7 +62,7 @@ impl Key {
         None
     }
 
-    // Its name in a script.
+    // Returns its name in a script.
     pub(crate) fn name(self) -> &'static str {
         match self {
             Key::Do => "do",

@@ -7,7 +7,7 @@ use std::alloc::{AllocError, Global};
 // The line of a text that cannot be run though no mistake was found in it.
 const NOT_FOUND: &str = "line 1, column 1: script: not valid\n";
 
-// The lines of the mistakes of a text that cannot be run: at least one.
+// Returns the lines of the mistakes of a text that cannot be run: at least one.
 pub(crate) fn mistakes_of(alloc: Global, text: &[u8]) -> Result<String, AllocError>
     ensures { IfOk result (λ lines. 0 < string_len lines) }
 {

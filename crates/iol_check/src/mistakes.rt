@@ -11,7 +11,7 @@ use toml_parser::ErrorKind;
 
 /// Appends a line for each mistake of a text to `lines` (docs/FORMATS.md, "Check").
 ///
-/// If the octets are too long or not UTF-8, no other mistake is looked for.
+/// If the text is too long or not UTF-8, no other mistake is looked for.
 pub(crate) fn write_mistakes(
     alloc: Global,
     text: &[u8],
@@ -33,7 +33,8 @@ pub(crate) fn write_mistakes(
     }
 }
 
-// If a text is not TOML, the parser's fault is its only mistake. But a key that is there twice is one mistake among others.
+// Writes the mistakes of a text. If it is not TOML, the parser's fault is its only mistake, unless that is a key that is there
+// twice, which is one mistake among others.
 fn write_of_text(alloc: Global, text: &str, lines: &mut String) -> Result<(), AllocError> {
     match toml::table_from_str(alloc, text) {
         Ok(_) => write_judged(alloc, text, lines),

@@ -25,7 +25,7 @@ pub(crate) fn write_unknown(
     }
 }
 
-// The key of a table of this kind that is most like a word, if one is like it.
+// Returns the key of a table of this kind that is most like a word, if one is like it.
 fn nearest_to(alloc: Global, kind: Option<Kind>, word: &str) -> Result<Option<Key>, AllocError> {
     let mut nearest = None;
     let mut most = LEAST_ALIKE;

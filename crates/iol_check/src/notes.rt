@@ -7,7 +7,7 @@ use iol_script::{Device, Script, Step};
 use std::alloc::{AllocError, Global};
 use std::str;
 
-/// The notes on the script of a text: one for each device at a port that makes no step, since nothing is ever sent to it.
+/// Returns the notes on the script of a text: one for each device at a port that makes no step, since nothing is ever sent to it.
 pub(crate) fn notes_of(alloc: Global, text: &[u8], script: &Script) -> Result<String, AllocError> {
     let mut notes = String::new(alloc);
     if let Ok(text) = str::from_utf8(text) {
@@ -17,7 +17,7 @@ pub(crate) fn notes_of(alloc: Global, text: &[u8], script: &Script) -> Result<St
     Ok(notes)
 }
 
-// The tables of devices, in the order of the text.
+// Returns the tables of devices, in the order of the text.
 fn device_tables(alloc: Global, text: &str) -> Result<Vec<Entry>, AllocError> {
     let mut tables = Vec::new(alloc);
     for entry in entries_of(alloc, text)? {
@@ -48,7 +48,7 @@ fn write_notes(
     Ok(())
 }
 
-// Whether the port of a device makes steps.
+// Returns whether the port of a device makes steps.
 fn is_reached(script: &Script, device: &Device) -> bool {
     for step in &script.steps {
         if let Step::Port { port, .. } = *step {

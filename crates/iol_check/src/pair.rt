@@ -35,7 +35,7 @@ pub(crate) fn pair_at<'t>(
     }
 }
 
-// The pair of a path that was read and the value after `=`.
+// Returns the pair of a path that was read and of the value after `=`, and the text after that value.
 fn pair_with<'t>(path: Path, text: &str, start: &str, equals: &'t str) -> Option<(Pair, &'t str)> {
     let value = skip_ws(equals.strip_prefix('=')?);
     let (_, behind) = value.split_at_checked(value_octets(value))?;

@@ -37,7 +37,7 @@ impl Kept {
         }
     }
 
-    // Keeps a key if the device may have it beside those that are kept. Returns whether it was kept.
+    // Keeps a key if the device may have it in addition to those that are kept. Returns whether it was kept.
     fn keeps(&mut self, alloc: Global, key: &str) -> Result<bool, AllocError> {
         let keys = format!(in alloc; "{}{key}", self.keys.as_str())?;
         let values = format!(in alloc; "{}{USUAL_VALUE}", self.values.as_str())?;
@@ -54,8 +54,8 @@ impl Kept {
 }
 
 impl Judge<'_> {
-    // Writes the mistakes of the keys of a device: those that are not valid or are there twice, those over the largest number
-    // that it may have, and that they have no values.
+    // Writes the mistakes of the keys of a device: that there are no values for them, those keys that are not valid or are
+    // there twice, and those over the largest number that it may have.
     pub(crate) fn write_wrong_keys(
         &self,
         entry: Entry,
@@ -129,7 +129,7 @@ impl Judge<'_> {
         }
     }
 
-    // The number of values of the array at a key of a table: 0 if the key is missing, and `None` if its value is not an array.
+    // Returns the number of values of the array at a key of a table: 0 if the key is missing, and `None` if its value is not an array.
     fn count_at(&self, table: usize, key: Key) -> Result<Option<usize>, AllocError> {
         match self.entry_at(table, key) {
             None => Ok(Some(0)),

@@ -10,7 +10,7 @@ pub(crate) struct TextPosition {
 }
 
 impl TextPosition {
-    // The place of the octet with this number, from 0. A byte order mark at the beginning is not counted as a character.
+    // Returns the place of the octet with this number, from 0. A byte order mark at the beginning is not counted as a character.
     pub(crate) fn at(text: &[u8], number: usize) -> TextPosition {
         let mut place = TextPosition { line: 1, column: 1 };
         for octet in without_mark(text.get(..number).unwrap_or(text)) {
@@ -19,7 +19,7 @@ impl TextPosition {
         place
     }
 
-    // The place after an octet that is at this place.
+    // Returns the place after an octet that is at this place.
     fn behind(self, octet: u8) -> TextPosition {
         if octet == b'\n' {
             TextPosition {

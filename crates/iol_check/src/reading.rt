@@ -126,7 +126,7 @@ impl EntriesRead {
         Ok(())
     }
 
-    // Whether a key of the script has tables of this role as its value.
+    // Returns whether a key of the script has tables of this role as its value.
     fn has_array(&self, role: Role) -> bool {
         for entry in &self.entries {
             let is_array = entry.role == Role::Script && entry.form == Form::Value;
@@ -137,7 +137,7 @@ impl EntriesRead {
         false
     }
 
-    // The role of the tables in the value of a key, if that key has an array of tables.
+    // Returns the role of the tables in the value of a key, if that key has an array of tables.
     fn array_at(&self, pair: Pair) -> Option<Role> {
         if self.is_open && self.role == Role::Script {
             array_role(pair.path)
@@ -171,7 +171,7 @@ fn first_key(path: Path) -> Option<Key> {
     }
 }
 
-// The entries of a text, in its order. The list ends where the text cannot be read further.
+// Returns the entries of a text, in its order. The list ends where the text cannot be read further.
 pub(crate) fn entries_of(alloc: Global, text: &str) -> Result<Vec<Entry>, AllocError> {
     let mut found = EntriesRead::new(alloc)?;
     let mut rest = text.strip_prefix('\u{FEFF}').unwrap_or(text);
@@ -209,7 +209,7 @@ fn read_line<'t>(
     }
 }
 
-// The keys of a header, the header as it is in the text, and the text after its closing brackets.
+// Returns the keys of a header, the header as it is in the text, and the text after its closing brackets.
 fn header_at<'t>(
     alloc: Global,
     text: &str,

@@ -37,7 +37,7 @@ pub(crate) struct Rule {
 }
 
 impl Kind {
-    // The step that a word at `do` names, if it names one.
+    // Returns the step that a word at `do` names, if it names one.
     pub(crate) fn of_step(word: &str) -> Option<Kind> {
         match word {
             "configure" => Some(Kind::Configure),
@@ -51,7 +51,7 @@ impl Kind {
         }
     }
 
-    // The rule of a key in a table of this kind, if the table may have that key.
+    // Returns the rule of a key in a table of this kind, if the table may have that key.
     pub(crate) fn rule(self, key: Key) -> Option<Rule> {
         match self {
             Kind::Script => of_script(key),
@@ -66,12 +66,12 @@ impl Kind {
         }
     }
 
-    // A value that is right at a key, if a table of this kind must have that key.
+    // Returns a value that is right at a key, if a table of this kind must have that key.
     pub(crate) fn right_value(self, key: Key) -> Option<&'static str> {
         self.rule(key)?.needed
     }
 
-    // Whether a table of this kind may have a key; if the table is an unknown step, whether any step may.
+    // Returns whether a table of this kind may have a key; if the table is an unknown step, whether any step may.
     pub(crate) fn has(kind: Option<Kind>, key: Key) -> bool {
         match kind {
             Some(kind) => kind.rule(key).is_some(),
@@ -135,7 +135,7 @@ fn of_configure(key: Key) -> Option<Rule> {
     }
 }
 
-// The rule of a key of a command that names only a port, with its word at `do`.
+// Returns the rule of a key of a command that names only a port, with its word at `do`.
 fn of_port_command(key: Key, word: &'static str) -> Option<Rule> {
     match key {
         Key::Do => needed(word, STEPS),
@@ -176,7 +176,7 @@ fn of_stop(key: Key) -> Option<Rule> {
     }
 }
 
-// The rule of a required key: a value that is right, and what is allowed there.
+// Returns the rule of a required key: a value that is right, and what is allowed there.
 fn needed(right: &'static str, words: &'static str) -> Option<Rule> {
     Some(Rule {
         needed: Some(right),
@@ -198,7 +198,7 @@ fn needed_slots() -> Option<Rule> {
     })
 }
 
-// The rule of an optional key: what is allowed there.
+// Returns the rule of an optional key: what is allowed there.
 fn free(words: &'static str) -> Option<Rule> {
     Some(Rule {
         needed: None,

@@ -47,7 +47,7 @@ fn read_pairs(
     Ok(())
 }
 
-// The values of an array. A value that is not an array has none.
+// Returns the values of an array. A value that is not an array has none.
 pub(crate) fn values_of(alloc: Global, text: &str, array: Part) -> Result<Vec<Part>, AllocError> {
     let mut values = Vec::new(alloc);
     let mut rest = array.inside(text, '[').unwrap_or("");
@@ -61,7 +61,8 @@ pub(crate) fn values_of(alloc: Global, text: &str, array: Part) -> Result<Vec<Pa
     Ok(values)
 }
 
-// The value at `start`, a suffix of `text`, and the text after it, or `None` at a closing bracket.
+// Returns the value at `start`, a suffix of `text`, and the text after it, or `None` at a closing
+// bracket.
 fn value_at<'t>(text: &str, start: &'t str) -> Option<(Part, &'t str)> {
     let octets = value_octets(start);
     if octets == 0 {

@@ -10,7 +10,7 @@ use std::alloc::{AllocError, Global};
 // The largest number of slots that a script may have, which is enough for any number of ports.
 pub(crate) const MOST_SLOTS: u16 = 256;
 
-// Whether a value, as it is in a script with `ports` ports, is allowed at a key of a table of this kind.
+// Returns whether a value, as it is in a script with `ports` ports, is allowed at a key of a table of this kind.
 pub(crate) fn is_right(
     alloc: Global,
     ports: i64,
@@ -22,7 +22,7 @@ pub(crate) fn is_right(
     can_be_run(alloc, script.as_str())
 }
 
-// The number of ports of a script with this value at `ports`, or `None` if the value is not allowed there.
+// Returns the number of ports of a script with this value at `ports`, or `None` if the value is not allowed there.
 pub(crate) fn ports_by(alloc: Global, value: &str) -> Result<Option<i64>, AllocError> {
     let script = script_with(alloc, 1, Kind::Script, Key::Ports, value)?;
     match read_playable(alloc, script.as_bytes()) {
@@ -33,7 +33,7 @@ pub(crate) fn ports_by(alloc: Global, value: &str) -> Result<Option<i64>, AllocE
     }
 }
 
-// The smallest number of slots that a script with `ports` ports may have.
+// Returns the smallest number of slots that a script with `ports` ports may have.
 pub(crate) fn least_slots(alloc: Global, ports: i64) -> Result<u16, AllocError> {
     for slots in 1..MOST_SLOTS {
         let script = format!(in alloc; "ports = {ports}\nslots = {slots}\n")?;
@@ -44,7 +44,7 @@ pub(crate) fn least_slots(alloc: Global, ports: i64) -> Result<u16, AllocError> 
     Ok(MOST_SLOTS)
 }
 
-// Whether a device may have these keys and values, as they are between the brackets of their arrays.
+// Returns whether a device may have these keys and values, as they are between the brackets of their arrays.
 pub(crate) fn are_parameters(alloc: Global, keys: &str, values: &str) -> Result<bool, AllocError> {
     let mut script = String::new(alloc);
     write!(script, "ports = 1\nslots = {MOST_SLOTS}\n")?;
@@ -56,7 +56,7 @@ pub(crate) fn are_parameters(alloc: Global, keys: &str, values: &str) -> Result<
     can_be_run(alloc, script.as_str())
 }
 
-// Whether a script can be run.
+// Returns whether a script can be run.
 fn can_be_run(alloc: Global, script: &str) -> Result<bool, AllocError>
     ensures may { result ≡ Ok true → CanRun script.now }
     ensures may_not { result ≡ Ok false → CanRun script.now → ⊥ }
@@ -69,7 +69,7 @@ fn can_be_run(alloc: Global, script: &str) -> Result<bool, AllocError>
     }
 }
 
-// A script with `ports` ports and all else that it needs, which has a value at a key of a table of this kind.
+// Returns a script with `ports` ports and all else that it needs, which has a value at a key of a table of this kind.
 fn script_with(
     alloc: Global,
     ports: i64,

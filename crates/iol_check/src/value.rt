@@ -2,8 +2,8 @@
 
 use toml_parser::bytes::byte_at;
 
-// The number of octets of the value at the beginning of a text, which is TOML: up to the comma, bracket, comment or end of
-// line that ends it, without the white space before that.
+// Returns the number of octets of the value at the beginning of a text, which is TOML: up to the comma, bracket, comment or end
+// of line that ends it, without the white space before that.
 pub(crate) fn value_octets(text: &str) -> usize {
     let octets = text.as_bytes();
     let mut walk = Walk::new();
@@ -52,7 +52,7 @@ impl Walk {
         }
     }
 
-    // The walk after the octet at this place.
+    // Returns the walk after the octet at this place.
     fn step(self, octets: &[u8], at: usize) -> Walk {
         if self.skip != 0 {
             return self.over(self.skip.saturating_sub(1));
@@ -95,7 +95,8 @@ impl Walk {
         }
     }
 
-    // Such a text may have up to two quotes in a row, also right before the three that end it.
+    // Takes a step in a text between three quotes. Such a text may have up to two quotes in a row, also right before the three
+    // that end it.
     fn step_lines(self, octets: &[u8], at: usize, quote: u8) -> Walk {
         let quotes = quotes_at(octets, at, quote);
         if 3 <= quotes {
@@ -106,7 +107,7 @@ impl Walk {
         }
     }
 
-    // Between double quotes, the octet after a backslash is not read as a quote.
+    // Takes a step over an octet of a text. Between double quotes, the octet after a backslash is not read as a quote.
     fn escaped(self, octet: u8, quote: u8) -> Walk {
         if octet == b'\\' && quote == b'"' {
             self.over(1)
@@ -147,7 +148,7 @@ impl Walk {
     }
 }
 
-// The number of quotes of this kind in a row from this place on.
+// Returns the number of quotes of this kind in a row from this place on.
 fn quotes_at(octets: &[u8], at: usize, quote: u8) -> usize {
     let mut count = 0usize;
     for octet in octets.get(at..).unwrap_or(&[]) {

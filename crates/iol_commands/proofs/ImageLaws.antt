@@ -8,7 +8,7 @@ use Rattle.iol_journal.specs.Erasing.{MeansAsBeforeOrNothing}
 use Rattle.iol_journal.specs.Formatting.{IsEmptyJournalOf, IsEmptyOrUnformatted}
 use Rattle.iol_journal.specs.Geometry.{Geometry}
 
--- at a moment of a forced format: as before, or nothing, or an empty journal
+-- an image at a moment of a forced format means what one meant before, or nothing, or is an empty journal
 abbrev pub IsOnTheWay : Geometry → Disk → Image → Type 0
 IsOnTheWay g old image = MeansAsBeforeOrNothing old.sectors old.content image ⊎ IsEmptyJournalOf g old.sectors image
 
@@ -29,7 +29,7 @@ leaves_forced g old between new erased formatted =
     on_the_way h image (inl is) = inl (each_now old between _ erased h image is)
     on_the_way h image (inr is) = later image (subst (λ (sectors : ℕ). IsEmptyOrUnformatted g sectors image) erased.sectors is)
 
--- both of two tests hold
+-- if both of two tests hold, the second holds
 second_holds : (one two : Bool) → (one && two) ≡ true → two ≡ true
 second_holds true two both = both
 second_holds false two both = absurd (untrue both)

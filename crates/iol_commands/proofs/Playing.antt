@@ -23,7 +23,7 @@ use Rattle.iol_core.specs.Words.{accepted, acked}
 use Rattle.iol_journal.specs.Geometry.{Geometry}
 use Rattle.iol_commands.specs.Played.{IsRunOf, HoldsAcknowledged}
 
--- what a disk with an empty journal reads as
+-- a disk with an empty journal reads as number 0 and the empty state
 empty_read : (given : Disk) (g : Geometry) → IsTrue given.honest → EachIsEmptyJournal given g
     → KeptMeans given.sectors 0 (empty_state g.ports) (reads given.content)
 empty_read given g honest empty = (empty honest (reads given.content) (reads-is_image given.content)).empty
@@ -81,7 +81,7 @@ holds disk said geometry given trace image number state honest last run left mea
     counted : prefix.count ≡ number
     counted = omega (arith, same.0)
 
--- what an image with this journal means
+-- an image with this journal means its number and its state
 pub means_so : (sectors : ℕ) (image : Image) (journal : Standing) (number : ℕ) (state : State) → standing_in sectors image ≡ Ok journal
     → number ≡ journal.number → state ≡ journal.state → meaning sectors image ≡ Ok (record { number = number; state = state })
 means_so sectors image journal number state stands counted same =

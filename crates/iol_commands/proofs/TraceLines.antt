@@ -24,7 +24,7 @@ after_more : (lost : Option ℕ) (events : List Event) (event : Event) → lost_
 after_more lost [] event = refl
 after_more lost (e ∷ events) event = after_more (lost_in e) events event
 
--- the events up to a place, and one more
+-- the events up to a place, and the event at it
 pub next_events : (stamped : List Stamped) (i : ℕ) (item : Stamped) → i < length stamped → get_or stamped i item ≡ item
     → events_of (take (i + 1) stamped) ≡ events_of (take i stamped) ++ event_of item.event ∷ []
 next_events stamped i item within is =

@@ -10,7 +10,7 @@ use Rattle.iol_commands.specs.declared.fault.Fault.TheVariants.{Geometry, File, 
 use Rattle.iol_disk.specs.declared.image_fault.ImageFault.{ImageFault}
 use Rattle.iol_disk.specs.declared.image_fault.ImageFault.TheVariants as image
 
--- what a format prints: the sectors of its geometry, in decimal (format, Texts)
+-- the text of a format: the number of sectors of its geometry, in decimal (format, Texts)
 abbrev pub formatted_text : Shape → List ℕ
 formatted_text g = codes "formatted " ++ (decimal (total (layout_of g)) ++ codes " sectors\n")
 

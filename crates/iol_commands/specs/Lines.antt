@@ -55,6 +55,6 @@ lines_of events = lines_from None events
 abbrev pub events_of : List Stamped → List Event
 events_of stamped = map (λ (s : Stamped). event_of s.event) stamped
 
--- what a run prints: the lines of its events, that the power stopped, and the state that was recovered (format, Texts)
+-- the text of a run: the lines of its events, that the power stopped, and the state that was recovered (format, Texts)
 abbrev pub report_text : List Event → ℕ → State → List ℕ
 report_text events number state = lines_of events ++ (codes "stopped\n" ++ recovered_text number state)

@@ -1,4 +1,4 @@
--- A script that was run: the run that it asked for, and what was recovered from the run's disk.
+-- A script that was run: its run, and what was recovered from the run's disk.
 use Rattle.std.specs.Prelude.{◌≡◌, ◌≤◌, ℕ, pos, List, length, take, Option, Some, None, Ok, IsSomeAnd}
 use Rattle.iol_types.specs.State.{State, after, empty_state}
 use Rattle.iol_disk.specs.Content.{IsImage, reads}
@@ -42,8 +42,7 @@ abbrev pub FailsAsSaid : Option FailingCall → FaultDisk MemoryDisk → Type 0
 FailsAsSaid None disk = due_of disk ≡ due_at None
 FailsAsSaid (Some call) disk = (kind_of disk ≡ call.kind) × (due_of disk ≡ due_at (Some call))
 
--- the run that a script asks for: all of its tasks, over an empty journal of its ports and slots, with its devices at the ports
--- (format, Scripts)
+-- the run of a script: all of its tasks, over an empty journal of its ports and slots, with its devices at the ports (format, Scripts)
 pub record IsRunOf {D : Type 0} (disk : D → Disk) (said : Said) (geometry : Geometry) (given : D) (trace : Trace D Sim) : Type 0 where
   pub empty : EachIsEmptyJournal (disk given) geometry
   pub headline : IsHeadline disk (λ (link : Sim). link.connection) SimStep given (links_of geometry.ports said.devices)
@@ -78,7 +77,7 @@ pub record IsPlayed (said : Said) (report : Report) : Type 0 where
   pub stopped : IsStoppedAs said.keep (inner trace.disk) report.recovered.number report.recovered.state
   pub holds : HoldsAcknowledged geometry.ports (told_in trace) report.recovered.number report.recovered.state
 
--- what is printed of a run that was made (format, Texts)
+-- the text that is printed for a run (format, Texts)
 abbrev pub played_text : Report → List ℕ
 played_text report = report_text (events_of report.events.items) report.recovered.number report.recovered.state
 

@@ -1,4 +1,4 @@
--- What is printed of a disk.
+-- The text of the state on a disk.
 use Rattle.std.specs.Prelude.{◌≡◌, ℕ, List, Ok}
 use Rattle.iol_types.specs.State.{State}
 use Rattle.iol_disk.specs.Disk.{Disk, Shows}

@@ -26,7 +26,7 @@ IsCause text Memory = IsText text
 IsCause text Words = ⊥
 IsCause text fault = CanRun text
 
--- a text is not run, or its run is not printed in the form asked for: a fault with this status is the cause, and nothing is written
+-- a text is not run, or its run is not printed in the requested form. Either a fault with this status is the cause, and nothing is written
 -- to the output; or there is a text to print, writing it failed, and nothing is written to the error output (format, Texts)
 abbrev pub IsSilentOver : {O E : Type 0} → (List ℕ → List ℕ → Type 0) → List ℕ → ℕ → O → O → E → E → Type 0
 IsSilentOver Tells text status out written err told =

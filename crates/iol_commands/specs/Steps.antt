@@ -1,11 +1,11 @@
--- The tasks of a run that the steps of a script ask for.
+-- The steps of a script, as tasks of a run.
 use Rattle.std.specs.Prelude.{List, map}
 use Rattle.iol_run.specs.declared.task.Task.{Task}
 use Rattle.iol_run.specs.declared.task.Task.TheVariants.{Client, Port, Flush, Drain}
 use Rattle.iol_script.specs.declared.step.Step as script
 use Rattle.iol_script.specs.declared.step.Step.TheVariants as said
 
--- the task of a run that a step of a script asks for (format, Scripts)
+-- the task for a step of a script (format, Scripts)
 abbrev pub task_of : script.Step → Task
 task_of (said.Ask change) = Client change
 task_of (said.Port port times) = Port port times

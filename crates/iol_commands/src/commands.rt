@@ -45,11 +45,11 @@ pub struct Playable {
     pub geometry: Geometry,
 }
 
-/// Reads a script and its geometry from a text. It checks the text first, then whether the devices and the steps of ports
-/// are at the script's ports, then the numbers of ports and slots.
+/// Reads a script and its geometry from a text.
 ///
 /// # Errors
-/// `Script`, `Geometry` or `Memory`.
+/// `Script` if the text is not a script, or if a device or a step of a port is not at the script's ports; then `Geometry` if
+/// the numbers of ports and slots are not a geometry. `Memory` if reading the text runs out of memory.
 pub fn read_playable(alloc: Global, text: &[u8]) -> Result<Playable, Fault<'static>>
     ensures said { IfOk result (λ playable. said_in text.now ≡ Some (said_of playable.script)) }
     ensures numbers { IfOk result (λ playable. IsSaidGeometry (said_of playable.script) playable.geometry) }

@@ -14,7 +14,7 @@ use std::alloc::{AllocError, Global};
 // devices each call is lost.
 //
 // # Errors
-// `Memory`.
+// `AllocError` if memory runs out.
 pub fn links_of(alloc: Global, devices: &[Device], ports: u8) -> Result<Vec<SimLink>, AllocError>
     requires { All MayVisit devices.now }
     ensures links { IfOk result (λ links. links.items ≡ links_of ports (said_devices devices.now)) }
@@ -41,7 +41,7 @@ fn link_at(alloc: Global, devices: &[Device], port: u8) -> Result<SimLink, Alloc
     Ok(SimLink::new(visits))
 }
 
-// The visit of a device, at its beginning.
+// Returns the visit of a device, at its beginning.
 fn visit_of(alloc: Global, device: &Device) -> Result<Visit, AllocError>
     requires { MayVisit device.now }
     ensures { IfOk result (λ visit. visit ≡ visit_by (said_device device.now)) }
@@ -50,7 +50,7 @@ fn visit_of(alloc: Global, device: &Device) -> Result<Visit, AllocError>
     Ok(Visit::new(simulated, device.answers, device.event))
 }
 
-// A device as a script describes it, but without parameters.
+// Returns a device as a script describes it, but without parameters.
 fn bare_device(alloc: Global, device: &Device) -> SimDevice
     ensures { result ≡ bare_device (said_device device.now) }
 {
@@ -85,7 +85,7 @@ fn with_parameters(bare: SimDevice, parameters: &[Parameter]) -> Result<SimDevic
     Ok(device)
 }
 
-// Adding a parameter that the device may have fails only if it is out of memory.
+// Returns the only fault of adding a parameter that the device may have: out of memory.
 fn out_of_memory(fault: DeviceFault) -> AllocError
     requires { fault ≡ DeviceFault.Memory }
 {

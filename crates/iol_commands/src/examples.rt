@@ -29,7 +29,7 @@ pub fn losses()
         ≡ codes "port 1 starting\nport 1 lost\n" }
 {}
 
-/// What a run prints: its events, that the power stopped, and the state that was recovered.
+/// The text of a run: its events, that the power stopped, and the state that was recovered.
 pub fn reports()
     ensures { report_text (event.Acknowledged 1 ∷ []) 1 [] ≡ codes "acknowledged 1\nstopped\nrecovered 1\n" }
 {}

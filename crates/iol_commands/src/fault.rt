@@ -75,7 +75,7 @@ impl fmt::Display for Fault<'_> {
 }
 
 impl Fault<'_> {
-    // The exit status: 2 if the words, the script or its geometry are not valid, and 1 otherwise.
+    // Returns the exit status: 2 if the words, the script or its geometry are not valid, and 1 otherwise.
     pub fn status(&self) -> u8
         ensures status { result ≡ status_of self.now }
         ensures small { result ≤ 2 }

@@ -52,7 +52,7 @@ pub(crate) fn opened_or_made<'a, F: FileExt + OpenFile + LockFile + Drop, R: Fil
     }
 }
 
-// The fault of a command that cannot use the image file at this path.
+// Returns the fault of a command that cannot use the image file at this path.
 fn of_image(fault: ImageFault, path: &str) -> Fault<'_>
     ensures cause { IsFileCause fault result }
     ensures status { status_of result ≡ 1 }

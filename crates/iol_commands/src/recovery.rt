@@ -16,7 +16,7 @@ use std::alloc::Global;
 // Recovers the journal on a disk, and the state that it means.
 //
 // # Errors
-// Why the disk is not recovered.
+// `NotFormatted`, `TooSmall`, `Damaged`, `Disk` or `Memory`, whichever is met first.
 pub fn recover<D: SectorDisk + Drop>(
     alloc: Global,
     disk: D,

@@ -31,7 +31,7 @@ pub(crate) struct Report {
 // that the script names, if any, fails; calls are counted from the recovery after the format up to the stop.
 //
 // # Errors
-// As `empty_disk`, `make_run` and `stop`.
+// Those of `empty_disk`, `make_run` and `stop`, in this order.
 pub(crate) fn run(
     alloc: Global,
     geometry: Geometry,
@@ -70,7 +70,7 @@ pub fn empty_disk(
 /// Runs a script over a disk with an empty journal.
 ///
 /// # Errors
-/// `Memory`, or `Disk` if a call of the recovery fails.
+/// `Memory` if memory runs out, or `Disk` if a call of the recovery fails, whichever is met first.
 pub fn make_run<D: SectorDisk + Drop>(
     alloc: Global,
     disk: D,
@@ -99,7 +99,7 @@ pub fn make_run<D: SectorDisk + Drop>(
 /// Stops the power of a disk, and recovers what the stop leaves.
 ///
 /// # Errors
-/// Why the disk is not recovered.
+/// The fault of the recovery.
 pub fn stop(alloc: Global, disk: MemoryDisk, keep: Pick) -> Result<Recovered, Fault<'static>>
     ensures stopped { IfOk result (λ recovered. IsStoppedAs keep disk recovered.number recovered.state) }
     ensures status { IfErr result (λ fault. status_of fault ≡ 1) }

@@ -6,10 +6,10 @@ use iol_run::Task;
 use iol_script::Step as ScriptStep;
 use std::alloc::{AllocError, Global};
 
-// The schedule of a script: the tasks of its steps, in their order.
+// Returns the schedule of a script: the tasks of its steps, in their order.
 //
 // # Errors
-// `Memory`.
+// `AllocError` if memory runs out.
 pub(crate) fn tasks_of(alloc: Global, steps: &[ScriptStep]) -> Result<Vec<Task>, AllocError>
     ensures { IfOk result (λ tasks. tasks.items ≡ tasks_of steps.now) }
 {

@@ -51,7 +51,7 @@ fn write_lines<W: fmt::Write>(
     }
 }
 
-/// The port whose device this event reports as lost, if it does.
+/// Returns the port whose device this event reports as lost, if it does.
 pub fn lost_port(event: &Event) -> Option<PortId>
     ensures { result ≡ lost_in (event_of event.now) }
 {
@@ -61,7 +61,7 @@ pub fn lost_port(event: &Event) -> Option<PortId>
     }
 }
 
-/// Whether this is the status of a port whose loss was reported right before.
+/// Returns whether this is the status of a port whose loss was reported right before.
 pub fn is_said_loss(event: &Event, lost: Option<PortId>) -> bool
     ensures { result ≡ is_said (event_of event.now) lost }
 {

@@ -1,4 +1,4 @@
--- Why a script that can be run is not printed.
+-- Why the run of a script that can be run is not printed.
 use Rattle.std.proofs.Common.{◌≡◌, List, ℕ}
 use Rattle.iol_commands.specs.Fault.{status_of}
 use Rattle.iol_commands.specs.Runs.{CanRun, IsCause}

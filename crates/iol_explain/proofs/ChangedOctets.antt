@@ -1,4 +1,4 @@
--- Octets of which one is another than in a request are no request.
+-- If one octet of a request is changed, the octets are no request.
 use Rattle.std.proofs.Common.{◌≡◌, ◌≢◌, ℕ, List, [], ◌∷◌, ◌++◌, refl, sym, ap, ◌∙◌, arith}
 use Rattle.std.specs.Prelude.{bit_xor, fold, Result, Ok, Err}
 use Rattle.std.proofs.lemmas.Grind.{common_steps, fold-append}
@@ -11,7 +11,7 @@ use Rattle.iol_link.specs.declared.messages.Request.TheVariants as request
 use Rattle.iol_link.proofs.RequestTexts.{request_found}
 use Rattle.iol_explain.specs.Requests.{AreOctets}
 
--- CHKPDU of a request is right
+-- the XOR of all octets of a request is 0, because its CHKPDU is right
 checked : (octets : List ℕ) (r : Request) → IsRequest octets r → xor_of octets ≡ 0
 checked octets (request.Read index subindex) is = is.1.1.xor
 checked octets (request.Write index subindex values) is = is.1.1.xor
@@ -26,7 +26,7 @@ same_start : (behind : List ℕ) (a b : ℕ) → fold bit_xor a behind ≡ fold 
 same_start [] a b same = same
 same_start (z ∷ behind) a b same = undone a b z (same_start behind (bit_xor a z) (bit_xor b z) same)
 
--- by their exclusive or, one octet is what the others leave
+-- if the XOR of the octets is 0 with either octet at a place, both octets are the same
 same_octet : (before behind : List ℕ) (octet other : ℕ) → xor_of (before ++ octet ∷ behind) ≡ 0
     → xor_of (before ++ other ∷ behind) ≡ 0 → other ≡ octet
 same_octet before behind octet other one two =

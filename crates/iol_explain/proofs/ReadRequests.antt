@@ -1,4 +1,4 @@
--- What reading a request gives.
+-- The result of reading a request.
 use Rattle.std.proofs.Common.{◌≡◌, ℕ, List, sym, ◌∙◌}
 use Rattle.std.specs.Prelude.{Some, Result, Ok, Err, IfOk}
 use Rattle.std.specs.Result.{result_err}

@@ -1,4 +1,4 @@
--- The lines of one event more, behind what was told.
+-- The lines of one more event, given what was reported before it.
 use Rattle.std.proofs.Common.{◌≡◌, ℕ, ◌+◌, ◌<◌, List, [], ◌∷◌, ◌++◌, length, take, get_or, sym, ap, ◌∙◌, append_assoc, append-nil, arith}
 use Rattle.std.proofs.lemmas.List.{length-take-le, take_more}
 use Rattle.iol_journal.specs.Geometry.{Geometry}
@@ -9,12 +9,12 @@ use Rattle.iol_explain.specs.Telling.{after, first}
 use Rattle.iol_explain.specs.declared.telling.Telling.{Telling}
 use Rattle.iol_explain.specs.declared.told_disk.ToldCall.{ToldCall}
 
--- the events up to a place, and one more
+-- the events up to a place, and the event at it
 next_events : (events : List Stamped) (i : ℕ) (item : Stamped) → i < length events → get_or events i item ≡ item
     → take (i + 1) events ≡ take i events ++ item ∷ []
 next_events events i item within is = take_more events i item within ∙ ap (λ (s : Stamped). take i events ++ s ∷ []) is
 
--- so many events are up to a place
+-- `i` events come before place `i`
 place_is : (events : List Stamped) (i : ℕ) → i < length events → i ≡ 0 + length (take i events)
 place_is events i within = omega (arith, length-take-le i events (omega arith))
 

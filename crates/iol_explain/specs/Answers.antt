@@ -9,16 +9,16 @@ use Rattle.iol_explain.specs.Values.{value_words}
 use Rattle.iol_explain.specs.declared.request_words.Asked.{Asked}
 use Rattle.iol_explain.specs.declared.request_words.Asked.TheVariants.{Read, Write}
 
--- the words for an answer to something else (format, Explained runs)
+-- the words for an answer to something else than was asked (format, Explained runs)
 abbrev pub unasked : List ℕ
 unasked = codes "an answer to something else than was asked"
 
--- a read was asked (own)
+-- the request was a read (own)
 abbrev pub asks_read : Asked → Bool
 asks_read (Read object) = true
 asks_read asked = false
 
--- a write was asked (own)
+-- the request was a write (own)
 abbrev pub asks_write : Asked → Bool
 asks_write (Write object) = true
 asks_write asked = false
@@ -33,7 +33,7 @@ abbrev pub read_words : Asked → List ℕ → List ℕ
 read_words (Read object) octets = value_words object octets
 read_words asked octets = unasked
 
--- the words for a negative answer, where it answers what was asked (format, Explained runs)
+-- the words for a negative answer, or that it is an answer to something else than was asked (format, Explained runs)
 abbrev pub refused_words : Bool → ℕ → ℕ → List ℕ
 refused_words is_asked error additional = if is_asked then codes "refused: " ++ error_text error additional else unasked
 

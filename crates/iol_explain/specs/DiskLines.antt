@@ -9,20 +9,20 @@ use Rattle.iol_explain.specs.declared.place.SectorUse.{SectorUse}
 use Rattle.iol_explain.specs.declared.told_disk.ToldCall.{ToldCall}
 use Rattle.iol_explain.specs.declared.told_disk.ToldCall.TheVariants.{Write, Sync}
 
--- the calls behind those of the recovery, which makes one sync beside its reads (format, Recovery)
+-- the calls after those of the recovery, which makes one sync besides its reads (format, Recovery)
 abbrev pub of_run : List ToldCall → List ToldCall
 of_run calls = drop 1 calls
 
--- the calls from a place on, up to another, where both are there (own)
+-- the calls from one index up to before another; none if these indexes are not in order or not within the calls (own)
 abbrev pub between : List ToldCall → ℕ → ℕ → List ToldCall
 between calls from to = if nat_le from to && nat_le to (length calls) then slice_range calls from to else []
 
--- how many calls come before the event at a place: those that are told, and the next ones before whose step no more events were told
--- than come before this one (own)
+-- the number of calls before the event at a place: the `told` ones, and the next ones before whose step no more events came than come
+-- before this one (own)
 abbrev pub calls_before : List ℕ → ℕ → ℕ → ℕ
 calls_before events_before told place = told + prefix_len (λ events. nat_le events place) (drop told events_before)
 
--- how a gate is written; nothing of what is no gate (format, Explained runs)
+-- whether a gate is written open or closed, in words; no words if the sector is no gate (format, Explained runs)
 abbrev pub standing : SectorUse → Bool → List ℕ
 standing place is_gate_open = if not (is_gate place) then [] else if is_gate_open then codes ", open" else codes ", closed"
 

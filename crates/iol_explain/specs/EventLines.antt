@@ -16,7 +16,7 @@ use Rattle.iol_explain.specs.Requests.{asked_by, request_words}
 use Rattle.iol_texts.specs.Statuses.{status_words}
 use Rattle.iol_explain.specs.declared.known.Known.{Known}
 
--- words behind a line (format, Explained runs)
+-- words after a line (format, Explained runs)
 abbrev pub with_words : List ℕ → List ℕ
 with_words words = codes "  # " ++ (words ++ codes "\n")
 
@@ -42,7 +42,7 @@ abbrev pub loss_line : ℕ → List ℕ
 loss_line port =
     codes "port " ++ (decimal port ++ (codes " lost" ++ with_words (codes "no device answers: check the cable, and connect a device")))
 
--- that all commands up to a number are durable (format, Explained runs)
+-- the words that all commands up to a number are durable (format, Explained runs)
 abbrev pub durable_words : ℕ → List ℕ
 durable_words number = codes "all commands up to " ++ (decimal number ++ codes " are durable")
 
@@ -50,12 +50,12 @@ durable_words number = codes "all commands up to " ++ (decimal number ++ codes "
 abbrev pub acknowledged_line : ℕ → List ℕ
 acknowledged_line number = codes "acknowledged " ++ (decimal number ++ with_words (durable_words number))
 
--- the line of a status, by what is known of its port (format, Explained runs)
+-- the line of a status, given what is known of its port (format, Explained runs)
 abbrev pub status_line : Known → ℕ → Status → List ℕ
 status_line known port status =
     codes "port " ++ (decimal port ++ (codes " " ++ (status_text status ++ with_words (status_words (row_known known) status))))
 
--- the lines of an event, by what is known of its port (format, Explained runs)
+-- the lines of an event, given what is known of its port (format, Explained runs)
 abbrev pub event_lines : Known → Event → List ℕ
 event_lines known (Accepted number command) = codes "accepted " ++ (decimal number ++ with_words (codes "waits for the disk"))
 event_lines known (Refused refusal) = codes "refused " ++ (refusal_name refusal ++ with_words (refusal_words refusal))

@@ -1,4 +1,4 @@
--- What was told of a port, by which its decision is explained.
+-- What was reported of a port, by which its decision is explained.
 use Rattle.std.specs.Prelude.{ℕ, not, if◌then◌else◌, List, Option, Some, None, Result, Ok}
 use Rattle.iol_types.specs.Config.{restores}
 use Rattle.iol_types.specs.declared.config.Validation.TheVariants.{NoCheck}
@@ -16,26 +16,26 @@ use Rattle.iol_explain.specs.declared.request_words.Asked.TheVariants.{Read}
 use Rattle.iol_texts.specs.declared.row.Row.{Row}
 use Rattle.iol_texts.specs.declared.row.Row.TheVariants.{NotKept}
 
--- nothing was told (own)
+-- what is known of a port before anything is reported of it (own)
 abbrev pub blank : Known
 blank = record { validation = NoCheck; stored = None; property = None; checksum = None }
 
--- what is known once a port was told its work (own)
+-- what is known of a port after the core has reported its work (own)
 abbrev pub attended : Known → trace.Work → Known
 attended known work = record known { validation = work.config.validation; stored = work.checksum }
 
--- what is known once these octets were read where that was asked (own)
+-- what is known of a port after it has read these octets of an object (own)
 abbrev pub read_known : Known → Asked → List ℕ → Known
 read_known known (Read object.StateProperty) octets = record known { property = one_octet octets }
 read_known known (Read object.Checksum) octets = record known { checksum = four_octets octets }
 read_known known asked octets = known
 
--- what is known behind an exchange (own)
+-- what is known of a port after an exchange (own)
 abbrev pub heard : Known → Asked → Result Answer IsduFault → Known
 heard known asked (Ok (ReadOk octets)) = read_known known asked octets.items
 heard known asked answer = known
 
--- what is known behind a change of the port's status: what was read of a device counts up to the transfer that it leads to (own)
+-- what is known after a change of the port's status: what was read of a device counts up to the transfer that it leads to (own)
 abbrev pub started : Known → trace.Status → Known
 started known trace.Starting = record known { property = None; checksum = None }
 started known trace.Lost = record known { property = None; checksum = None }
@@ -43,12 +43,12 @@ started known trace.Uploading = record known { property = None; checksum = None 
 started known trace.Downloading = record known { property = None; checksum = None }
 started known status = known
 
--- the line for a device of which this was read, where both values are known (own)
+-- the line that applies to a device with this State_Property and this Parameter_Checksum, if both are known (own)
 abbrev pub row_read : Known → Option ℕ → Option ℕ → Option Row
 row_read known (Some octet) (Some checksum) =
     Some (row_of known.validation (property_of octet).state (property_of octet).flag checksum known.stored)
 row_read known property checksum = None
 
--- the line by which a port decides, where what it goes by is known (own)
+-- the line of the table of decisions that applies to a port, if what it depends on is known (own)
 abbrev pub row_known : Known → Option Row
 row_known known = if not (restores known.validation) then Some NotKept else row_read known known.property known.checksum

@@ -1,4 +1,4 @@
--- What a request names in a device, and octets as values of it.
+-- The objects that requests name in a device, and octets as values of them.
 use Rattle.std.specs.Prelude.{ℕ, ◌==◌, not, if◌then◌else◌, List, [], ◌∷◌, ◌++◌, codes, Option, Some, None, option_and_then}
 use Rattle.std.specs.Fmt.{decimal}
 use Rattle.std.specs.Int.{w32, from_be_bytes}
@@ -12,7 +12,7 @@ use Rattle.iol_texts.specs.Texts.{hex_of, hex_digits}
 use Rattle.iol_explain.specs.declared.object.Object.{Object}
 use Rattle.iol_explain.specs.declared.object.Object.TheVariants.{Parameter, Command, StateProperty, Size, Checksum, IndexList, Unnamed}
 
--- what an Index and a Subindex name: a parameter, or what stands at a Subindex of the Data Storage object (standard, Data Storage object)
+-- the object that an Index and a Subindex name: a parameter, or a part of the Data Storage object (standard, Data Storage object)
 abbrev pub object_of : ℕ → ℕ → Object
 object_of index subindex =
     if not (index == DATA_STORAGE) then Parameter (record { index = index; subindex = subindex })
@@ -37,7 +37,7 @@ object_name Checksum = codes "Parameter_Checksum"
 object_name IndexList = codes "Index_List"
 object_name (Unnamed subindex) = codes "Subindex " ++ decimal subindex
 
--- an object where it stands (format, Explained runs)
+-- an object with its Index and Subindex (format, Explained runs)
 abbrev pub object_place : Object → List ℕ
 object_place (Parameter key) = codes "parameter " ++ key_text key
 object_place Command = codes "Index 3, Subindex 1: DS_Command"
@@ -47,12 +47,12 @@ object_place Checksum = codes "Index 3, Subindex 4: Parameter_Checksum"
 object_place IndexList = codes "Index 3, Subindex 5: Index_List"
 object_place (Unnamed subindex) = codes "Index 3, Subindex " ++ decimal subindex
 
--- the octet, where there is one and no other (own)
+-- the octet, if there is exactly one (own)
 abbrev pub one_octet : List ℕ → Option ℕ
 one_octet (octet ∷ []) = Some octet
 one_octet octets = None
 
--- the number that four octets are, most significant octet first, where there are four (standard, Data Storage object)
+-- the number that four octets are, most significant octet first, if there are four (standard, Data Storage object)
 abbrev pub four_octets : List ℕ → Option ℕ
 four_octets (first ∷ second ∷ third ∷ fourth ∷ []) = Some (from_be_bytes w32 (first ∷ second ∷ third ∷ fourth ∷ []))
 four_octets octets = None
@@ -61,7 +61,7 @@ four_octets octets = None
 abbrev pub command_in : List ℕ → Option DsCommand
 command_in octets = option_and_then ds_command_of (one_octet octets)
 
--- octets in hexadecimal behind spaces, or that there are none (format, Explained runs)
+-- octets in hexadecimal, each after a space, or that there are none (format, Explained runs)
 abbrev pub octet_words : List ℕ → List ℕ
 octet_words [] = codes " no octet"
 octet_words (octet ∷ octets) = spaced (octet ∷ octets)

@@ -1,4 +1,4 @@
--- What stands in a sector of a journal's disk.
+-- The contents of the sectors of a journal's disk.
 use Rattle.std.specs.Prelude.{ℕ, ◌+◌, ◌-◌, ◌*◌, ◌/◌, ◌%◌, ◌==◌, nat_lt, Bool, true, false, if◌then◌else◌, List, ◌++◌, codes}
 use Rattle.std.specs.Fmt.{decimal}
 use Rattle.iol_journal.specs.Layout.{Layout, gate_at, record_sectors, total}
@@ -8,12 +8,13 @@ use Rattle.iol_explain.specs.declared.place.SectorUse.{SectorUse}
 use Rattle.iol_explain.specs.declared.place.SectorUse.TheVariants.{Geometry, DiskGate, AreaGate, Header, Record, SlotGate, Body, Unused}
 use Rattle.iol_explain.specs.declared.place.SectorUse.TheVariants.{Behind}
 
--- what stands so far behind the records of an area: slots of a gate and 16 sectors of a body (format, Disk layout)
+-- what the sector at this offset after the records of an area holds: a slot is a gate and 16 sectors of a body (format, Disk layout)
 abbrev pub place_in_slot : Area → ℕ → SectorUse
 place_in_slot area offset =
     if offset % 17 == 0 then SlotGate area (offset / 17 + 1) else Body area (offset / 17 + 1)
 
--- what stands so far into an area: its gate, its header, the ports' records, slots, and what is unused (format, Disk layout)
+-- what the sector at this offset in an area holds: its gate, its header, the ports' records, the slots, and then nothing (format, Disk
+-- layout)
 abbrev pub place_in_area : Layout → Area → ℕ → SectorUse
 place_in_area layout area offset =
     if offset == 0 then AreaGate area
@@ -22,7 +23,7 @@ place_in_area layout area offset =
     else if nat_lt offset (2 + record_sectors layout + 17 * layout.slots) then place_in_slot area (offset - 2 - record_sectors layout)
     else Unused area
 
--- what stands in a sector: the geometry, the gate of the disk, area A, area B (format, Disk layout)
+-- what a sector holds: the geometry, the gate of the disk, area A, area B, and then nothing of the journal (format, Disk layout)
 abbrev pub place_at : Layout → ℕ → SectorUse
 place_at layout sector =
     if sector == 0 then Geometry
@@ -31,7 +32,7 @@ place_at layout sector =
     else if nat_lt sector (total layout) then place_in_area layout B (sector - gate_at layout B)
     else Behind
 
--- a gate stands there (format, Disk layout)
+-- a place holds a gate (format, Disk layout)
 abbrev pub is_gate : SectorUse → Bool
 is_gate DiskGate = true
 is_gate (AreaGate area) = true

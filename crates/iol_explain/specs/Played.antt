@@ -14,12 +14,12 @@ use Rattle.iol_explain.specs.ToldDisk.{calls_of, is_whole, told_on}
 use Rattle.iol_explain.specs.declared.explained.Explained.{Explained}
 use Rattle.iol_explain.specs.declared.told_disk.ToldDisk.{ToldDisk}
 
--- the disk of a run whose calls are told, as contracts see it (own)
+-- the disk of a run that reports its calls, as contracts see it (own)
 abbrev pub told_disk : ToldDisk (FaultDisk MemoryDisk) → Disk
 told_disk disk = run_disk (told_on disk)
 
--- a script was played over a disk whose calls are told, none of them before the run and each that was made since: its run was made,
--- with its disk call failing, its power was stopped, and what was recovered holds all that was acknowledged (own)
+-- a script was run on a disk that fails as the script says, and that reported each call of the run and none before it; the power was
+-- stopped, and what was recovered holds all that was acknowledged (own)
 pub record IsExplained (said : Said) (explained : Explained) : Type 0 where
   pub given : ToldDisk (FaultDisk MemoryDisk)
   pub trace : Trace (ToldDisk (FaultDisk MemoryDisk)) Sim

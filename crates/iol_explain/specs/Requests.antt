@@ -13,7 +13,7 @@ use Rattle.iol_explain.specs.declared.object.Object.TheVariants.{Command}
 use Rattle.iol_explain.specs.declared.request_words.Asked.{Asked}
 use Rattle.iol_explain.specs.declared.request_words.Asked.TheVariants.{Read, Write, Malformed}
 
--- what a request asks for (own)
+-- the object that a request reads or writes, or that its octets are malformed (own)
 abbrev pub asked_by : Result Request IsduFault → Asked
 asked_by (Ok (request.Read index subindex)) = Read (object_of index subindex)
 asked_by (Ok (request.Write index subindex octets)) = Write (object_of index subindex)
@@ -37,7 +37,7 @@ abbrev pub written_words : Object → List ℕ → List ℕ
 written_words Command octets = command_words octets
 written_words object octets = codes ":" ++ octet_words octets
 
--- which check of the codec octets fail, and where (format, Explained runs)
+-- the words for the check of the codec that octets fail (format, Explained runs)
 abbrev pub isdu_fault_words : IsduFault → List ℕ
 isdu_fault_words isdu.Empty = codes "Empty: there is no octet"
 isdu_fault_words isdu.Reserved = codes "Reserved: the first octets have a reserved I-Service, Length or ExtLength"
@@ -52,6 +52,6 @@ request_words (Ok (request.Write index subindex octets)) =
     codes "writes " ++ (object_place (object_of index subindex) ++ written_words (object_of index subindex) octets.items)
 request_words (Err fault) = codes "malformed, " ++ isdu_fault_words fault
 
--- numbers that are octets (own)
+-- each of these numbers is an octet (own)
 abbrev pub AreOctets : List ℕ → Type 0
 AreOctets octets = (place : ℕ) → slice_index octets place < 256

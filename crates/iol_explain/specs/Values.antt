@@ -30,39 +30,39 @@ state_text Upload = codes "upload"
 state_text Download = codes "download"
 state_text Locked = codes "Data Storage locked"
 
--- what State_Property says (format, Explained runs)
+-- the words for State_Property (format, Explained runs)
 abbrev pub property_text : PropertyValue → List ℕ
 property_text property =
     codes "State_Property: DS_UPLOAD_FLAG " ++ (flag_text property.flag ++ (codes ", state " ++ state_text property.state))
 
--- the words for State_Property, which has one octet (format, Explained runs)
+-- the words for the octets of State_Property, which has one octet (format, Explained runs)
 abbrev pub property_value : List ℕ → List ℕ
 property_value octets =
     option_map_or (λ octet. property_text (property_of octet)) (one_octet octets)
     (codes "State_Property, not one octet:" ++ octet_words octets)
 
--- the words for Data_Storage_Size, which has four octets (format, Explained runs)
+-- the words for the octets of Data_Storage_Size, which has four octets (format, Explained runs)
 abbrev pub size_value : List ℕ → List ℕ
 size_value octets =
     option_map_or (λ size. codes "Data_Storage_Size: " ++ (decimal size ++ codes " octets")) (four_octets octets)
     (codes "Data_Storage_Size, not four octets:" ++ octet_words octets)
 
--- the words for Parameter_Checksum, which has four octets (format, Explained runs)
+-- the words for the octets of Parameter_Checksum, which has four octets (format, Explained runs)
 abbrev pub checksum_value : List ℕ → List ℕ
 checksum_value octets =
     option_map_or (λ checksum. codes "Parameter_Checksum: " ++ hex_digits 8 checksum) (four_octets octets)
     (codes "Parameter_Checksum, not four octets:" ++ octet_words octets)
 
--- keys, each with a comma behind it (format, Explained runs)
+-- keys, each with a comma after it (format, Explained runs)
 abbrev pub keys_text : List Key → List ℕ
 keys_text keys = flat_map (λ key. key_text key ++ codes ", ") keys
 
--- what is next behind a list (format, Explained runs)
+-- the words for what comes next after a list (format, Explained runs)
 abbrev pub next_text : Next → List ℕ
 next_text next.End = codes "end"
 next_text (next.List index) = codes "next list at Index " ++ hex_digits 4 index
 
--- the keys of a list, and what is next (format, Explained runs)
+-- the words for the keys of a list and for what comes next (format, Explained runs)
 abbrev pub listing_words : List Key → Next → List ℕ
 listing_words keys next_ = codes "Index_List: " ++ (keys_text keys ++ next_text next_)
 

@@ -53,21 +53,21 @@ pub(crate) fn answer_in(octets: &[u8]) -> Result<Answer, IsduFault>
     read_answer(octets)
 }
 
-// Returns the words for an answer to something else.
+// Returns the words for an answer to something else than was asked.
 fn unasked() -> &'static str
     ensures { result.now ≡ unasked }
 {
     "an answer to something else than was asked"
 }
 
-// Returns whether a read was asked.
+// Returns whether the request was a read.
 fn asks_read(asked: Asked) -> bool
     ensures { result ≡ asks_read asked }
 {
     matches!(asked, Asked::Read(_))
 }
 
-// Returns whether a write was asked.
+// Returns whether the request was a write.
 fn asks_write(asked: Asked) -> bool
     ensures { result ≡ asks_write asked }
 {
@@ -119,7 +119,7 @@ fn write_value<W: fmt::Write>(
     )
 }
 
-// Writes the words for a negative answer, or that it answers something else than was asked.
+// Writes the words for a negative answer, or that it is an answer to something else than was asked.
 fn write_refused<W: fmt::Write>(
     f: &mut fmt::Formatter<W>,
     is_asked: bool,

@@ -8,7 +8,7 @@ use crate::told_disk::ToldCall;
 use iol_journal::Geometry;
 use std::fmt;
 
-/// The calls behind those of the recovery, which makes one sync beside its reads.
+/// Returns the calls after those of the recovery, which makes one sync besides its reads.
 pub fn calls_of_run(calls: &[ToldCall]) -> &[ToldCall]
     ensures { result.now ≡ of_run calls.now }
 {
@@ -18,7 +18,7 @@ pub fn calls_of_run(calls: &[ToldCall]) -> &[ToldCall]
     }
 }
 
-/// The calls from a place on, up to another, where both are there.
+/// Returns the calls from index `from` up to before index `to`, or none if these indexes are not in order or not within the calls.
 pub fn calls_between(calls: &[ToldCall], from: usize, to: usize) -> &[ToldCall]
     ensures { result.now ≡ between calls.now from to }
 {
@@ -29,8 +29,8 @@ pub fn calls_between(calls: &[ToldCall], from: usize, to: usize) -> &[ToldCall]
     }
 }
 
-/// How many calls come before the event at a place, of which so many are told. `events_before` has for each call how many events
-/// were told before the step that made it. A call comes before the event of its own step.
+/// Returns the number of calls before the event at index `place`, of which `told` are already reported. For each call,
+/// `events_before` has the number of events before the step that made it. A call comes before the event of its own step.
 pub fn calls_before(events_before: &[usize], told: usize, place: usize) -> usize
     ensures { result ≡ calls_before events_before.now told place }
 {
@@ -41,7 +41,7 @@ pub fn calls_before(events_before: &[usize], told: usize, place: usize) -> usize
     calls
 }
 
-// The lines of disk calls, in their order.
+// Writes the lines of disk calls, in order.
 pub(crate) fn write_calls<W: fmt::Write>(
     f: &mut fmt::Formatter<W>,
     geometry: Geometry,
@@ -90,7 +90,7 @@ impl fmt::Display for CallLine {
     }
 }
 
-// How a gate is written; nothing of what is no gate.
+// Returns the words for whether a gate is written open or closed, or no words if the sector is no gate.
 fn standing(place: SectorUse, is_gate_open: bool) -> &'static str
     ensures { result.now ≡ standing place is_gate_open }
 {

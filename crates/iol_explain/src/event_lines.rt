@@ -22,7 +22,7 @@ use iol_types::PortId;
 use std::alloc::Global;
 use std::fmt;
 
-// Writes the lines of an event, by what is known of its port.
+// Writes the lines of an event, given what is known of its port.
 pub(crate) fn write_event<W: fmt::Write>(
     f: &mut fmt::Formatter<W>,
     alloc: Global,
@@ -89,7 +89,7 @@ fn write_acknowledged<W: fmt::Write>(f: &mut fmt::Formatter<W>, number: u64) -> 
     writeln!(f, "acknowledged {number}  # {}", Durable(number))
 }
 
-// Says that all commands up to a number are durable.
+// The words that all commands up to this number are durable.
 #[derive(Clone, Copy)]
 struct Durable(u64);
 

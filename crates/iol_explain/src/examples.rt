@@ -54,7 +54,7 @@ pub fn commands()
         ≡ codes "writes Index 3, Subindex 1: DS_Command, no command: 01 02" }
 {}
 
-/// Requests to write parameters, and what is not written.
+/// Requests to write a parameter, with octets and with none, and to write State_Property.
 pub fn writes()
     ensures parameter { request_words (request_of (0x15 ∷ 0x40 ∷ 0x0A ∷ 0x64 ∷ 0x3B ∷ [])) ≡ codes "writes parameter 0040.00: 0A 64" }
     ensures no_octet { request_words (request_of (0x13 ∷ 0x40 ∷ 0x53 ∷ [])) ≡ codes "writes parameter 0040.00: no octet" }
@@ -121,7 +121,8 @@ pub fn other_answers()
         ≡ codes "malformed, Check: the last octet, CHKPDU, does not make the XOR of all octets 00" }
 {}
 
-/// Values that are read at the Data Storage object, of each state, and with another number of octets.
+/// Values read from the Data Storage object: the states besides inactive, values of a wrong length, DS_Command, and a Subindex
+/// that the standard does not name.
 pub fn values()
     ensures upload { value_words Object.StateProperty (0x02 ∷ []) ≡ codes "State_Property: DS_UPLOAD_FLAG clear, state upload" }
     ensures download { value_words Object.StateProperty (0x04 ∷ []) ≡ codes "State_Property: DS_UPLOAD_FLAG clear, state download" }
@@ -135,7 +136,7 @@ pub fn values()
     ensures unnamed { value_words (Object.Unnamed 9) (0x01 ∷ []) ≡ codes "Subindex 9: 01" }
 {}
 
-/// Lists with no key, with a further list, and octets that are no list.
+/// Lists with no key and with a further list, a list that breaks off, and one that names a reserved Index.
 pub fn lists()
     ensures no_key { value_words Object.IndexList (0x00 ∷ 0x00 ∷ []) ≡ codes "Index_List: end" }
     ensures further_list { value_words Object.IndexList (0x00 ∷ 0x40 ∷ 0x00 ∷ 0x12 ∷ 0x00 ∷ [])
@@ -145,7 +146,7 @@ pub fn lists()
         ≡ codes "Index_List: it names a reserved Index" }
 {}
 
-/// Pages of a device that knows ISDUs, and of one that does not.
+/// Pages of a device that supports ISDUs, and of one that does not.
 pub fn pages()
     ensures known { page_words (page_of (0x00 ∷ 0x00 ∷ 0x17 ∷ 0x01 ∷ 0x11 ∷ 0x00 ∷ 0x00 ∷ 0x01 ∷ 0xF4 ∷ 0x00 ∷ 0xAB ∷ 0xCD
         ∷ 0x00 ∷ 0x00 ∷ 0x00 ∷ 0x00 ∷ []))
@@ -199,7 +200,8 @@ pub fn disk_calls()
     ensures sync { call_line two_by_four ToldCall.Sync ≡ codes "disk sync\n" }
 {}
 
-/// The calls of a run: those after the first sync, which is that of the recovery.
+/// The calls of a run are those after the first sync, which is the recovery's. The calls between two indexes are cut out of
+/// them, and the calls before an event are counted.
 pub fn calls()
     ensures of_run { of_run (ToldCall.Sync ∷ ToldCall.Write 23 false ∷ ToldCall.Sync ∷ []) ≡ ToldCall.Write 23 false ∷ ToldCall.Sync ∷ [] }
     ensures between { between (ToldCall.Sync ∷ ToldCall.Write 23 false ∷ ToldCall.Sync ∷ []) 1 2 ≡ ToldCall.Write 23 false ∷ [] }
@@ -207,8 +209,8 @@ pub fn calls()
     ensures since { map (calls_before (0 ∷ 0 ∷ 2 ∷ 5 ∷ []) 3) (0 ∷ 4 ∷ 5 ∷ 6 ∷ []) ≡ 3 ∷ 3 ∷ 4 ∷ 4 ∷ [] }
 {}
 
-/// The knowledge of ports. What one port reads is known of that port alone, up to its next look at a device, its loss, or a
-/// transfer.
+/// What is known of ports. What one port reads is known of that port alone, until it starts to look at its device again, loses
+/// it, or transfers parameters.
 pub fn knowledge()
     ensures read { known_after blank (event.Exchange 17 0 (0xA4 ∷ 0x03 ∷ 0x02 ∷ 0xA5 ∷ []) (0xD3 ∷ 0x80 ∷ 0x53 ∷ []))
         ≡ record blank { property = Some 0x80 } }

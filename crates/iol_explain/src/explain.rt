@@ -24,15 +24,15 @@ use iol_texts::Recovered;
 use std::alloc::Global;
 use std::io::Write;
 
-// The disk of a run that is explained: its calls are told.
+// The disk of an explained run, which reports its calls.
 type PlayedDisk = ToldDisk<FaultDisk<MemoryDisk>>;
 
-/// Runs a script on a disk in memory, and returns the exit status: 0 once its trace and the recovered state are written
-/// to `out`, each line of the trace with what it says in words, and the disk calls between them (docs/FORMATS.md,
-/// "Explained runs"); 2 where the script or its geometry is not valid, and else 1.
+/// Runs a script on a disk in memory, and returns the exit status: 0 if its trace and the recovered state are written to `out`,
+/// 2 if the script or its geometry is not valid, and 1 otherwise. Each line of the trace has after it what it says in words,
+/// and the disk calls are between the lines (docs/FORMATS.md, "Explained runs").
 ///
-/// Where the run fails, a line on `err` says why, as `iol_commands::run_text` says it, and nothing is written to `out`.
-/// Where writing to `out` fails, nothing is written to `err`.
+/// If the run fails, a line on `err` says why, as from `iol_commands::run_text`, and nothing is written to `out`. If writing to
+/// `out` fails, nothing is written to `err`.
 pub fn explain_text<W: Write, E: Write>(
     alloc: Global,
     script: &[u8],
@@ -45,10 +45,10 @@ pub fn explain_text<W: Write, E: Write>(
     ensures quiet { result ≡ 0 → err.new ≡ err.old }
     ensures not_valid { result ≡ 2 → CanRun script.now → ⊥ }
     ensures untouched { result ≡ 2 → out.new ≡ out.old }
-    // What is written explains a run that was played: of the script, with what was recovered behind its stop.
+    // The written text explains a run of the script, with what was recovered after its stop.
     ensures printed { result ≡ 0
         → (text : List ℕ) × ExplainsRun script.now text × Appends (W.contents out.old) (W.contents out.new) text }
-    // Else a fault is why, and nothing is written to `out`; or writing to `out` failed.
+    // Otherwise a fault is the cause, and nothing is written to `out`; or writing to `out` failed.
     ensures silent { (result ≡ 0 → ⊥) → IsSilentOver ExplainsRun script.now result out.old out.new err.old err.new }
 {
     match text_of_explained(alloc, script) {
@@ -57,7 +57,7 @@ pub fn explain_text<W: Write, E: Write>(
     }
 }
 
-// What an explained run prints.
+// Returns the text of an explained run.
 fn text_of_explained(alloc: Global, text: &[u8]) -> Result<String, Fault<'static>>
     ensures ran { OnOk result (CanRun text.now) }
     ensures printed { IfOk result (λ printed. ExplainsRun text.now (string_bytes printed)) }
@@ -67,7 +67,7 @@ fn text_of_explained(alloc: Global, text: &[u8]) -> Result<String, Fault<'static
     text_of_ready(alloc, &ready)
 }
 
-// What an explained run of a script prints that can be run.
+// Returns the text of the explained run of a script that can be run.
 fn text_of_ready(alloc: Global, ready: &Playable) -> Result<String, Fault<'static>>
     requires devices { All MayVisit ready.now.script.devices.items }
     requires numbers { IsSaidGeometry (said_of ready.now.script) ready.now.geometry }
@@ -80,10 +80,11 @@ fn text_of_ready(alloc: Global, ready: &Playable) -> Result<String, Fault<'stati
     Ok(explained.to_string(alloc)?)
 }
 
-/// Runs a script on a disk whose calls are told, and recovers what the script's stop leaves of it.
+/// Runs a script on a disk that reports its calls, and recovers what the script's stop leaves of it.
 ///
 /// # Errors
-/// As `empty_disk`, `make_run` and `stop` of `iol_commands`; `Memory` where a call of the disk is missing.
+/// Those of `empty_disk` and of `make_run` of `iol_commands`; `Memory` if memory ran out for a call of the disk, which is then
+/// missing; those of `stop` of `iol_commands`.
 pub fn explained_run(
     alloc: Global,
     geometry: Geometry,
@@ -100,7 +101,7 @@ pub fn explained_run(
     stopped_run(alloc, geometry, script.keep, left_by(trace))
 }
 
-// The events of a run, how many came before the step of each disk call, and its disk.
+// What a run leaves: its events, the number of events before the step of each disk call, and its disk.
 #[derive(Drop)]
 struct Left {
     events: Vec<Stamped>,
@@ -108,7 +109,7 @@ struct Left {
     disk: PlayedDisk,
 }
 
-// What a run leaves.
+// Returns what the run of a trace leaves.
 fn left_by(trace: Trace<PlayedDisk, SimLink>) -> Left
     ensures events { (result.events ≡ trace.events) × (result.events_before ≡ trace.calls) }
     ensures disk { result.disk ≡ trace.disk }
@@ -126,7 +127,7 @@ fn left_by(trace: Trace<PlayedDisk, SimLink>) -> Left
     }
 }
 
-// The events of a run, with the calls of its disk and what its stop leaves.
+// Returns the explained run, with the calls of its disk and what is recovered after its stop.
 fn stopped_run(
     alloc: Global,
     geometry: Geometry,
@@ -157,7 +158,7 @@ fn stopped_run(
     }
 }
 
-// The calls of a disk, and what its stop leaves.
+// Returns the calls of a disk, and what is recovered after its stop.
 fn told_and_recovered(
     alloc: Global,
     keep: Pick,

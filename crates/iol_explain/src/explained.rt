@@ -1,4 +1,4 @@
-//! A run that is explained: its lines with their words, and between them those of disk calls.
+//! An explained run: the lines of its events, with their words, and those of its disk calls between them.
 ghost use Rattle.std.specs.Fmt.{WritesOnOk};
 ghost use Rattle.iol_engine.specs.Events.{event_of};
 ghost use Rattle.iol_explain.specs.Explained.{run_lines, told_text, unsaid_lines};
@@ -14,8 +14,8 @@ use iol_texts::Recovered;
 use std::alloc::Global;
 use std::fmt;
 
-/// The events of a run, the calls of its disk from the recovery on, how many events came before the step of each call of the
-/// flusher, and what was recovered behind the stop.
+/// An explained run: the calls of its disk, from its recovery on; its events; for each call of the flusher, the number of
+/// events before the step that made it; and what was recovered after the stop.
 #[derive(Drop)]
 pub struct Explained {
     pub alloc: Global,
@@ -45,7 +45,7 @@ impl fmt::Display for Explained {
     }
 }
 
-// The lines of events and of disk calls: a call stands before the event of its step.
+// Writes the lines of events and of disk calls. The line of a call comes before those of the event of its step.
 fn write_lines<W: fmt::Write>(
     f: &mut fmt::Formatter<W>,
     alloc: Global,
@@ -67,7 +67,7 @@ fn write_lines<W: fmt::Write>(
     write_calls(f, geometry, behind)
 }
 
-// The lines of an event behind what was told, and of the disk calls since.
+// Writes the lines of the disk calls since the last event, and then those of an event, given what was reported before it.
 fn write_told<W: fmt::Write>(
     f: &mut fmt::Formatter<W>,
     alloc: Global,
@@ -82,7 +82,7 @@ fn write_told<W: fmt::Write>(
     write_unsaid(f, alloc, telling, stamped)
 }
 
-// The lines of an event, but for a loss that was said right before.
+// Writes the lines of an event, or none if it is a loss that was just reported.
 fn write_unsaid<W: fmt::Write>(
     f: &mut fmt::Formatter<W>,
     alloc: Global,

@@ -63,7 +63,7 @@ impl Known {
         }
     }
 
-    // Adds the octets that were read of State_Property or Parameter_Checksum, if one of them was asked for.
+    // Adds the octets that were read of State_Property or Parameter_Checksum, if the request was to read one of them.
     fn read(self, asked: Asked, octets: &[u8]) -> Known
         ensures { result ≡ read_known self asked octets.now }
     {
@@ -109,7 +109,7 @@ impl Known {
         }
     }
 
-    // Returns the line by which the port decides, if what it depends on is known.
+    // Returns the line of the table of decisions that applies to the port, if what it depends on is known.
     pub(crate) fn row(self) -> Option<Row>
         ensures { result ≡ row_known self }
     {

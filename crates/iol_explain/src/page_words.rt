@@ -35,7 +35,7 @@ fn write_page<W: fmt::Write>(f: &mut fmt::Formatter<W>, page: Page) -> fmt::Resu
     write!(f, "RevisionID {revision}, {isdu}")
 }
 
-// Returns whether the device knows ISDUs, in words.
+// Returns whether the device supports ISDUs, in words.
 fn isdu_text(has_isdu: bool) -> &'static str
     ensures { result.now ≡ isdu_text has_isdu }
 {

@@ -9,7 +9,7 @@ use iol_link::{IsduFault, Request, read_request};
 use iol_transfer::DsCommand;
 use std::fmt;
 
-// What a request asks for.
+// The object that a request reads or writes, or that its octets are malformed.
 #[derive(Clone, Copy)]
 pub(crate) enum Asked {
     Read(Object),
@@ -24,7 +24,7 @@ fn request_in(octets: &[u8]) -> Result<Request, IsduFault>
     read_request(octets)
 }
 
-// Returns what these octets ask for, read as a request.
+// Returns the object that these octets read or write as a request, or that they are malformed.
 pub(crate) fn asked_by(octets: &[u8]) -> Asked
     ensures { result ≡ asked_by (request_of octets.now) }
 {

@@ -1,4 +1,4 @@
-//! What the lines before an event have told.
+//! What the lines before an event have reported.
 ghost use Rattle.std.specs.Prelude.{◌≡◌};
 ghost use Rattle.iol_engine.specs.Events.{event_of};
 ghost use Rattle.iol_explain.specs.Telling.{after, first, known_after, known_at, known_for, port_of};
@@ -9,20 +9,20 @@ use iol_engine::Event;
 use iol_run::Stamped;
 use iol_types::{PORTS, PortId};
 
-// The numbers of ports, and 0, which is that of none.
+// The number of places in an array indexed by port numbers. No port has number 0.
 const NUMBERS: usize = PORTS as usize + 1;
 
-// What was told: how many disk calls, the port whose device was just lost, and what is known of each port.
+// What was reported: the number of disk calls, the port whose device was just lost, and what is known of each port.
 #[derive(Drop)]
 pub(crate) struct Telling {
     pub(crate) calls: usize,
     pub(crate) lost: Option<PortId>,
-    // by the port's number
+    // what is known of each port, at the index of its number
     ports: [Known; NUMBERS],
 }
 
 impl Telling {
-    // Nothing was told.
+    // Returns what was reported before the first event: nothing.
     pub(crate) fn first() -> Telling
         ensures { result ≡ first }
     {
@@ -33,7 +33,7 @@ impl Telling {
         }
     }
 
-    // What is known of the port of an event, if it is the event of one.
+    // Returns what is known of the port of an exchange, of work or of a status, and a blank for any other event.
     pub(crate) fn known_for(&self, event: &Event) -> Known
         ensures { result ≡ known_for self.now.ports (event_of event.now) }
     {
@@ -43,7 +43,7 @@ impl Telling {
         }
     }
 
-    // What is known of a port.
+    // Returns what is known of a port.
     fn known_at(&self, port: PortId) -> Known
         ensures { result ≡ known_at self.now.ports port }
     {
@@ -53,7 +53,7 @@ impl Telling {
         }
     }
 
-    // One more event is told, behind this many disk calls.
+    // Notes that one more event is reported, after this number of disk calls.
     pub(crate) fn tell(&mut self, calls: usize, stamped: &Stamped)
         ensures { self.new ≡ after self.old calls stamped.now }
     {
@@ -67,7 +67,7 @@ impl Telling {
     }
 }
 
-// The port of an event by which a decision is explained.
+// Returns the port of an event, if the event changes what is known of that port.
 fn port_of(event: &Event) -> Option<PortId>
     ensures { result ≡ port_of (event_of event.now) }
 {
@@ -78,7 +78,7 @@ fn port_of(event: &Event) -> Option<PortId>
     }
 }
 
-// What is known of a port behind an event of it.
+// Returns what is known of a port after an event of it.
 fn known_after(known: Known, event: &Event) -> Known
     ensures { result ≡ known_after known (event_of event.now) }
 {

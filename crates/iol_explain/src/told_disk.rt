@@ -20,11 +20,11 @@ pub enum ToldCall {
 pub(crate) struct ToldDisk<D: SectorDisk> {
     disk: D,
     calls: Vec<ToldCall>,
-    // whether each call is among them
+    // whether each call that was made is in `calls`
     is_whole: bool,
 }
 
-/// A disk at its end: the disk whose calls were reported, and the calls.
+/// What is left of a `ToldDisk` at its end: its disk, and the calls in the order in which they were made.
 #[derive(Drop)]
 pub(crate) struct ToldEnd<D: SectorDisk> {
     pub(crate) disk: D,
@@ -59,7 +59,7 @@ impl<D: SectorDisk + Drop> ToldDisk<D> {
     // Returns the disk and the calls, in the order in which they were made.
     //
     // # Errors
-    // Out of memory: a call is missing.
+    // If memory ran out for a call, which is then missing.
     pub(crate) fn end(self) -> Result<ToldEnd<D>, AllocError>
         ensures disk { IfOk result (λ end. end.disk ≡ told_on self) }
         ensures calls { IfOk result (λ end. (end.calls.items ≡ calls_of self) × (is_whole self ≡ true)) }

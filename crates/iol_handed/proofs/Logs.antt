@@ -5,7 +5,7 @@ use Rattle.iol_disk.specs.Calls.{write, content_after}
 use Rattle.iol_disk.specs.Content.{Image, wrote}
 use Rattle.iol_handed.specs.Log.{content_of, content_in, logged}
 
--- octets of a whole sector are the first 512 of themselves with more behind them
+-- the first 512 octets of a whole sector and of more after it are those of the sector
 whole_first : (octets more : List ℕ) → length octets ≡ 512 → take 512 (octets ++ more) ≡ octets
 whole_first octets more whole = subst (λ (n : ℕ). take n (octets ++ more) ≡ octets) whole (take-append_seam octets more)
 

@@ -1,4 +1,4 @@
--- What becomes of an opening.
+-- Facts of the outcome of an opening.
 use Rattle.iol_recovery.specs.declared.cause.RecoverCause.{RecoverCause}
 use Rattle.iol_handed.specs.Found.{FoundView}
 use Rattle.iol_handed.specs.Opened.{IfFound, IfRefused}
@@ -12,7 +12,7 @@ found-weaker (GoesOn opening) P Q weaker fact = tt
 found-weaker (Found found) P Q weaker fact = weaker found fact
 found-weaker (Refused cause) P Q weaker fact = tt
 
--- and so may one of a cause
+-- a fact of the cause of a refusal may be weakened
 pub refused-weaker : {W : Type 0} (opened : Opened W) (P Q : RecoverCause → Type 0) → ((cause : RecoverCause) → P cause → Q cause)
     → IfRefused opened P → IfRefused opened Q
 refused-weaker (GoesOn opening) P Q weaker fact = tt

@@ -1,4 +1,4 @@
--- An element of lists one after the other.
+-- An element of lists that follow one another.
 use Rattle.std.proofs.Common.{◌≡◌, ◌≤◌, ◌<◌, ℕ, zero, suc, ◌+◌, ◌-◌, List, [], ◌∷◌, ◌++◌, length, slice_get, map, option_map, ap, refl}
 use Rattle.std.proofs.Common.{subst, sym, ◌∙◌, None, Some, arith}
 use Rattle.std.proofs.lemmas.List.FromFn.{get_or-range_with_len, length-range_with_len}
@@ -20,7 +20,7 @@ in_second (x ∷ xs) ys (suc k) past =
     let same : k - length xs ≡ suc k - suc (length xs) = omega arith in
     in_second xs ys k (omega arith) ∙ ap (slice_get ys) same
 
--- the same of the first of four
+-- an element of four lists that is in the first of them is the one of that list
 pub in_first_of : {A : Type 0} (xs ys zs ws : List A) (k : ℕ) → k < length xs → slice_get (((xs ++ ys) ++ zs) ++ ws) k ≡ slice_get xs k
 in_first_of [] ys zs ws k below = absurd (omega arith)
 in_first_of (x ∷ xs) ys zs ws zero below = refl

@@ -48,7 +48,7 @@ pub record MakesStep (port : ℕ) (notes : PortNotes) (answer : Answered) (old n
       ≡ slice_set old.notes (port - 1)
       (noted_after notes.attention (is_gone answer) (settled_in (slice_get new.made.machines (port - 1))))
 
--- the answer does not count for the port, as it does not fit what the port wants (own)
+-- the answer does not count for the port, because it does not fit what the port wants (own)
 abbrev pub DoesNotFit : ℕ → PortNotes → Answered → HandedMasterView → Type 0
 DoesNotFit port notes answer master =
     (connection : ℕ) × (handed : Handed) × IsHandedOver connection notes.event answer handed

@@ -17,8 +17,8 @@ use iol_front::Name;
 use iol_run::{Turn, Turned};
 
 impl<W: Flash, F: Name> HandedMaster<W, F> {
-    /// Returns what is wanted of the disk: the call in hand or, if there is none, what the next turn of the flusher comes to. A call
-    /// is in hand until it is reported.
+    /// Returns what is wanted of the disk: the call in hand or, if there is none, the outcome of the next turn of the flusher.
+    /// A call is in hand until it is reported.
     pub fn disk_next(&mut self) -> DiskAnswer
         ensures asks { AsksDisk (handed_disk W.image W.truthful) self.old self.new result }
         // Whatever a power stop leaves of the flash while the call in hand is made, it has all that was acknowledged.

@@ -32,7 +32,7 @@ impl HandedFormat {
     /// Makes the format for a geometry.
     ///
     /// # Errors
-    /// Out of memory.
+    /// `AllocError` if out of memory.
     pub fn new(alloc: Global, geometry: Geometry) -> Result<HandedFormat, AllocError>
         ensures { IfOk result (λ format. format.geometry ≡ geometry) }
     {

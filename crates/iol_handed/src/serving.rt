@@ -94,7 +94,7 @@ fn end_master<F: Name>(master: HandedMaster<UnknownFlash, F>) {
     master.end();
 }
 
-// Returns the flash that the request opens, or else the request.
+// Returns the flash that the request opens, or the request if it opens none.
 fn opened_by(ask: Ask) -> Result<Opening<UnknownFlash>, Ask>
     ensures { OpensOrIs ask result }
 {

@@ -9,7 +9,7 @@ use iol_types::{DataSet, Key};
 use serde_json::{Value, json};
 use std::alloc::{AllocError, Global};
 
-// The parameters of a set, in order.
+// Returns the parameters of a set, in order.
 pub(crate) fn entries_of(alloc: Global, set: &DataSet) -> Result<Value, AllocError>
     ensures { IfOk result (λ value. view value ≡ array (items_of (map entry_data set.now.entries))) }
 {
@@ -35,7 +35,7 @@ fn push_entry(
     Ok(())
 }
 
-// A parameter: its Index and Subindex, and its octets in hexadecimal.
+// Returns a parameter: its Index and Subindex, and its octets in hexadecimal.
 fn entry_of(alloc: Global, key: Key, octets: &[u8]) -> Result<Value, AllocError>
     ensures { IfOk result (λ value. view value ≡ entry_data (key, octets.now)) }
 {

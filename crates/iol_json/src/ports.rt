@@ -13,7 +13,7 @@ use iol_types::{MasterState, PortConfig, PortId, PortState, StoredSet};
 use serde_json::{Map, Value};
 use std::alloc::{AllocError, Global};
 
-// The ports of a state, port 1 first.
+// Returns the ports of a state, port 1 first.
 pub(crate) fn ports_of(alloc: Global, state: &MasterState) -> Result<Value, AllocError>
     ensures { IfOk result (λ value. view value ≡ array (items_of (ports_data 1 state.now))) }
 {
@@ -54,7 +54,7 @@ fn push_found(
     Ok(())
 }
 
-// A port: its number, its revision, its configuration, its stored set, and its previous set.
+// Returns a port: its number, its revision, its configuration, its stored set, and its previous set.
 pub(crate) fn port_of(alloc: Global, number: u8, port: &PortState) -> Result<Value, AllocError>
     ensures { IfOk result (λ value. view value ≡ port_data number port.now) }
 {
@@ -93,7 +93,7 @@ fn with_set(
     with(alloc, members, name, set)
 }
 
-// A set of a port, or null.
+// Returns a set of a port, or null if there is none.
 fn set_or_null(alloc: Global, stored: Option<&StoredSet>) -> Result<Value, AllocError>
     ensures { IfOk result (λ value. view value ≡ set_data (option_map (λ set. stored_of set.now) stored.entry)) }
 {
@@ -103,7 +103,7 @@ fn set_or_null(alloc: Global, stored: Option<&StoredSet>) -> Result<Value, Alloc
     }
 }
 
-// A stored set: its parameters, the octets that they count, its checksum, and the configuration under which it was taken.
+// Returns a stored set: its parameters, the octets that they count, its checksum, and the configuration under which it was taken.
 fn set_of(alloc: Global, stored: &StoredSet) -> Result<Value, AllocError>
     ensures { IfOk result (λ value. view value ≡ stored_data (stored_of stored.now)) }
 {
@@ -117,7 +117,7 @@ fn set_of(alloc: Global, stored: &StoredSet) -> Result<Value, AllocError>
     Ok(Value::Object(members))
 }
 
-// A configuration: its label and its numbers, each under its name.
+// Returns a configuration: its label and its numbers, each under its name.
 fn config_of(alloc: Global, config: PortConfig) -> Result<Value, AllocError>
     ensures { IfOk result (λ value. view value ≡ config_data config) }
 {

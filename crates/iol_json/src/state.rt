@@ -9,7 +9,7 @@ use iol_types::{MasterState, PortId, PortState};
 use serde_json::{Value, json};
 use std::alloc::{AllocError, Global};
 
-/// A state after `number` commands, with each of its ports (docs/FORMATS.md, "JSON").
+/// Returns a state after `number` commands, with each of its ports (docs/FORMATS.md, "JSON").
 pub fn json_of(alloc: Global, number: u64, state: &MasterState) -> Result<Value, AllocError>
     ensures { IfOk result (λ value. view value ≡ state_data number state.now) }
 {
@@ -17,14 +17,14 @@ pub fn json_of(alloc: Global, number: u64, state: &MasterState) -> Result<Value,
     json!(in alloc; {"ports": ports, "recovered": number})
 }
 
-/// One port of a state, with its number (docs/FORMATS.md, "JSON").
+/// Returns one port of a state, with its number (docs/FORMATS.md, "JSON").
 pub fn json_of_port(alloc: Global, port: PortId, state: &PortState) -> Result<Value, AllocError>
     ensures { IfOk result (λ value. view value ≡ port_data port state.now) }
 {
     port_of(alloc, port.number(), state)
 }
 
-/// The text of a state after `number` commands: one object, laid out in lines, without a line feed at the end.
+/// Returns the text of a state after `number` commands: one object, laid out in lines, without a line feed at the end.
 pub fn json_text(alloc: Global, number: u64, state: &MasterState) -> Result<String, AllocError>
     ensures { IfOk result (λ text. read (string_bytes text) ≡ Some (state_data number state.now)) }
 {

@@ -40,12 +40,12 @@ find_misses p (x ∷ xs) none = step (find_misses p xs) (p x) refl none
     step others true passes found = absurd (cc)
     step others false fails more = (fails, others more)
 
--- a value that is not missing
+-- a value that is not missing is there
 some_value : {A : Type 0} (o : Option A) → not (is_some o) ≡ false → (x : A) × (o ≡ Some x)
 some_value None missing = absurd (cc)
 some_value (Some x) there = (x, refl)
 
--- the word of the verb that is found
+-- the verb that is found for a word has that word
 verb_word : (word : List ℕ) (verb : Verb) → verb_of word ≡ Some verb → word ≡ verb_name verb
 verb_word word verb found =
     let same : bytes_eq (verb_name verb) word ≡ true = find_passes (λ (v : Verb). bytes_eq (verb_name v) word) verbs verb found in
@@ -55,7 +55,7 @@ word_of : (word : Option (List ℕ)) (verb : Verb) → option_and_then verb_of w
 word_of None verb is = absurd (cc)
 word_of (Some word) verb is = ap Some (verb_word word verb is)
 
--- the port of a request, if it has one
+-- the port of a request is read, if it has one
 port_there : (port : Option Data) (table : Members) → (is_some port && not (is_some (port_in table))) ≡ false
     → (number : Option ℕ) × (port_if port table ≡ Some number)
 port_there None table right = (None, refl)

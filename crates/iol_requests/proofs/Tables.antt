@@ -39,7 +39,7 @@ members_view-insert_entry [] key value = refl
 members_view-insert_entry (entry ∷ entries) key value =
     view-match_ordering (string_cmp key entry.0) _ _ _ ∙ rw (members_view-insert_entry entries key value) refl
 
--- one more member
+-- the next member is added
 pub next_member : (members : List Member) (place : ℕ) (d : Member) (table : Members) → place < length members
     → table_with (members_view (drop place members)) table
     ≡ table_with (members_view (drop (place + 1) members))

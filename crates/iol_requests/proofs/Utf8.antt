@@ -18,7 +18,7 @@ use Rattle.iol_requests.specs.declared.quote.Quote.TheVariants.{Single, Double}
 use Rattle.iol_requests.specs.declared.verb.Verb.{Verb}
 use Rattle.iol_requests.specs.declared.verb.Verb.TheVariants.{Configure, Clear, Rollback, Read, Status, Help, Quit}
 
--- an octet of ASCII before a text
+-- an octet of ASCII with UTF-8 after it is UTF-8
 ascii_then : (x : ℕ) (xs : List ℕ) → x < 128 → IsUtf8 xs → IsUtf8 (x ∷ xs)
 ascii_then x xs small text =
     IsUtf8-append (x ∷ []) xs (subst IsUtf8 (encode_ascii x small) (IsUtf8-encode x (low_scalar x (omega arith)))) text

@@ -57,7 +57,7 @@ abbrev pub are_distinct : List (List ℕ) → Bool
 are_distinct [] = true
 are_distinct (key ∷ others) = not (is_among others key) && are_distinct others
 
--- what the members of an object ask for (format, Requests)
+-- the request of the members of an object (format, Requests)
 abbrev pub request_with : json.Members → Option Request
 request_with members =
     if are_distinct (keys members) then request_in (table_with members no_members) else None
@@ -81,7 +81,7 @@ pub record Asking : Type 0 where
   pub id : Option IdValue
   pub request : Request
 
--- what a value asks for, if it is an object (format, Requests)
+-- the request of a value, if it is an object (format, Requests)
 abbrev pub request_of : Json → Option Request
 request_of (json.object members) = request_with members
 request_of _ = None
@@ -90,7 +90,7 @@ abbrev pub asking_of : Json → Option Asking
 asking_of value =
     option_and_then (λ id. option_map (λ request. record { id = id; request = request }) (request_of value)) (id_at value)
 
--- what a text asks for in JSON (format, Requests)
+-- the request of a text in JSON, with its id (format, Requests)
 abbrev pub asked_in_json : List ℕ → Option Asking
 asked_in_json text = option_and_then asking_of (document text)
 

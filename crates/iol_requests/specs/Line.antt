@@ -1,4 +1,4 @@
--- What a line asks for.
+-- The request of a line.
 use Rattle.std.specs.Prelude.{◌≡◌, ℕ, Bool, true, false, ◌==◌, ◌||◌, ◌-◌, ◌≤◌, if◌then◌else◌, List, length, take, slice_index}
 use Rattle.std.specs.Prelude.{Option, Some, None, option_map, IsUtf8}
 use Rattle.std.specs.List.{list_all}
@@ -28,12 +28,12 @@ is_nothing text = list_all is_blank text || slice_index text 0 == 0x23
 abbrev pub spelling_of : List ℕ → Spelling
 spelling_of text = if slice_index text 0 == 0x7B then Json else Words
 
--- what a text that is spelled like this asks for (format, Requests)
+-- the request of a text that is spelled like this (format, Requests)
 abbrev pub asked_as : Spelling → List ℕ → Option Asking
 asked_as Words text = option_map (λ request. record { id = None; request = request }) (asked_in_words text)
 asked_as Json text = asked_in_json text
 
--- what a text asks for (format, Requests)
+-- the request of a text (format, Requests)
 abbrev pub asked_in : List ℕ → Option Asking
 asked_in text = asked_as (spelling_of text) text
 
@@ -61,7 +61,7 @@ pub record SaysWrong (octets : List ℕ) : Type 0 where
   pub something : SaysNothing octets → ⊥
   pub no_request : (asking : Asking) → Says octets asking → ⊥
 
--- a fact about a line that is nothing, about one that is a request, and about one that is wrong (own)
+-- a claim about a line that is nothing, about one that is a request, and about one that is wrong (own)
 abbrev pub IfNothing : Line → Type 0 → Type 0
 IfNothing Nothing fact = fact
 IfNothing (Asked id spelling request) fact = Unit {0}

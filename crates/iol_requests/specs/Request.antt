@@ -1,4 +1,4 @@
--- What a table asks for: its members are `do`, with a verb, and the keys of that verb.
+-- The request of a table, whose members are `do`, with a verb, and the keys of that verb.
 use Rattle.std.specs.Prelude.{ℕ, if◌then◌else◌, List, [], ◌∷◌, codes, Option, Some, None, option_and_then, option_map}
 use Rattle.toml.specs.Data.{Data, Members, get_member}
 use Rattle.iol_script.specs.LiveScript.{change_in}
@@ -21,7 +21,7 @@ port_keys = codes "do" ∷ codes "port" ∷ []
 abbrev pub verb_alone : List (List ℕ)
 verb_alone = codes "do" ∷ []
 
--- the port that a table asks to read (format, Requests)
+-- the request to read the port of a table (format, Requests)
 abbrev pub read_in : Members → Option Request
 read_in table = if has_only_keys port_keys table then option_map Read (port_in table) else None
 
@@ -30,7 +30,7 @@ abbrev pub port_if : Option Data → Members → Option (Option ℕ)
 port_if None table = Some None
 port_if (Some value) table = option_map Some (port_in table)
 
--- the port whose status a table asks for, or all ports (format, Requests)
+-- the request for the status of the port of a table, or of all ports (format, Requests)
 abbrev pub status_in : Members → Option Request
 status_in table =
     if has_only_keys port_keys table then option_map Status (port_if (get_member (codes "port") table) table) else None
@@ -39,7 +39,7 @@ status_in table =
 abbrev pub alone_in : Request → Members → Option Request
 alone_in request table = if has_only_keys verb_alone table then Some request else None
 
--- what a table with a verb asks for; a change is read like a step of a script (format, Requests)
+-- the request of a table with a verb; a change is read like a step of a script (format, Requests)
 abbrev pub request_by : Verb → Members → Option Request
 request_by verb.Configure table = option_map Ask (change_in table)
 request_by verb.Clear table = option_map Ask (change_in table)
@@ -49,6 +49,6 @@ request_by verb.Status table = status_in table
 request_by verb.Help table = alone_in Help table
 request_by verb.Quit table = alone_in Quit table
 
--- what a table asks for (format, Requests)
+-- the request of a table (format, Requests)
 abbrev pub request_in : Members → Option Request
 request_in table = option_and_then (λ verb. request_by verb table) (verb_at table)

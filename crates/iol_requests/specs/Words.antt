@@ -48,7 +48,7 @@ verb_in text = verb_of (before_first is_blank text)
 abbrev pub pairs_in : List ℕ → List ℕ
 pairs_in text = after_first is_blank text
 
--- what a text asks for in words (format, Requests)
+-- the request of a text in words (format, Requests)
 abbrev pub asked_in_words : List ℕ → Option Request
 asked_in_words text =
     option_and_then (λ verb. option_and_then request_in (parse_document (document_of verb (pairs_in text)))) (verb_in text)

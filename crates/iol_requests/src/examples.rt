@@ -1,5 +1,5 @@
-//! Worked examples of what lines ask for, evaluated by the check: they catch a word or a range that is wrong both in a definition
-//! and in the code.
+//! Worked examples of the requests of lines, evaluated by the check: they catch a word or a range that is wrong both in a
+//! definition and in the code.
 
 ghost use Rattle.std.specs.Prelude.{◌≡◌, [], ◌∷◌, ◌++◌, true, false, map, codes, Some, None};
 ghost use Rattle.iol_types.specs.declared.command.Change.TheVariants as change;
@@ -129,7 +129,7 @@ pub fn refused_in_json()
         ≡ None ∷ None ∷ None ∷ None ∷ None ∷ [] }
 {}
 
-/// An id is 0 to 2^63 - 1, or a text of at most 64 octets, and is given back if the rest of its object is wrong.
+/// An id is 0 to 2^63 - 1, or a text of at most 64 octets. It is returned even if the rest of its object is wrong.
 pub fn ids()
     ensures numbers { map (λ digits. id_of (number (codes digits)))
         ("0" ∷ "9223372036854775807" ∷ "9223372036854775808" ∷ "-1" ∷ "1.0" ∷ "1e3" ∷ [])

@@ -16,7 +16,7 @@ use std::alloc::{AllocError, Global};
 use std::str;
 use toml::Table;
 
-// Reads what a table asks for, or what is wrong in it.
+// Reads the request of a table, or finds what is wrong in it.
 //
 // # Errors
 // `AllocError` if it is out of memory.
@@ -31,7 +31,7 @@ pub(crate) fn judged(alloc: Global, table: &Table) -> Result<Result<Request, Fau
     }
 }
 
-// What is wrong in a table that is no request.
+// Returns what is wrong in a table that is no request.
 fn fault_in(alloc: Global, table: &Table) -> Result<Fault, AllocError>
     requires { request_in (table_view table.now) ≡ None }
     ensures { IfOk result (IsFaultIn (table_view table.now)) }
@@ -42,7 +42,7 @@ fn fault_in(alloc: Global, table: &Table) -> Result<Fault, AllocError>
     }
 }
 
-// What is wrong in a table that has no verb.
+// Returns what is wrong in a table that has no verb.
 fn fault_of_verb(alloc: Global, table: &Table) -> Result<Fault, AllocError>
     requires { verb_at (table_view table.now) ≡ None }
     ensures { IfOk result (IsFaultIn (table_view table.now)) }
@@ -56,7 +56,7 @@ fn fault_of_verb(alloc: Global, table: &Table) -> Result<Fault, AllocError>
     }
 }
 
-// The fault of a word that is no verb, with the verb that is most like it.
+// Returns the fault of a word that is no verb, with the verb that is most like it.
 pub(crate) fn unknown_verb(alloc: Global, word: &[u8]) -> Result<Fault, AllocError>
     ensures { IfOk result IsOfVerb }
 {
@@ -67,8 +67,8 @@ pub(crate) fn unknown_verb(alloc: Global, word: &[u8]) -> Result<Fault, AllocErr
     })
 }
 
-// What is wrong in a table that has a verb and is no request. A key that the verb does not have is reported first, since it may
-// explain a missing key.
+// Returns what is wrong in a table that has a verb and is no request. A key that the verb does not have is reported first,
+// since it may explain a missing key.
 pub(crate) fn fault_of(alloc: Global, verb: Verb, table: &Table) -> Result<Fault, AllocError>
     requires verb { verb_at (table_view table.now) ≡ Some verb }
     requires none { request_by verb (table_view table.now) ≡ None }
@@ -85,7 +85,7 @@ pub(crate) fn fault_of(alloc: Global, verb: Verb, table: &Table) -> Result<Fault
     }
 }
 
-// The fault of the first key of a table that its verb does not have.
+// Returns the fault of the first key of a table that its verb does not have.
 fn unknown_key(alloc: Global, verb: Verb, table: &Table) -> Result<Fault, AllocError>
     requires { has_only_keys (keys_of verb) (table_view table.now) ≡ false }
     ensures { IfOk result (λ fault. IsFaultOf verb (table_view table.now) fault) }
@@ -98,7 +98,7 @@ fn unknown_key(alloc: Global, verb: Verb, table: &Table) -> Result<Fault, AllocE
     })
 }
 
-// The first key of a table that its verb does not have, or an empty text.
+// Returns the first key of a table that its verb does not have, or an empty text.
 fn first_unknown(verb: Verb, table: &Table) -> &str {
     for key in table.keys() {
         if !is_key_of(verb, key.as_str()) {
@@ -108,7 +108,7 @@ fn first_unknown(verb: Verb, table: &Table) -> &str {
     ""
 }
 
-// Whether a word is a key of a verb.
+// Returns whether a word is a key of a verb.
 fn is_key_of(verb: Verb, word: &str) -> bool {
     keys_of(verb).contains(&word)
 }

@@ -51,7 +51,7 @@ pub(crate) enum Use {
 }
 
 impl Key {
-    /// The word of the key.
+    /// Returns the word of the key.
     pub fn name(self) -> &'static str
         ensures { result.now ≡ key_name self }
     {
@@ -67,7 +67,7 @@ impl Key {
         }
     }
 
-    /// Describes the values that the key allows.
+    /// Returns a description of the values that the key allows.
     pub fn may(self) -> &'static str {
         match self {
             Key::Do => "a verb in quotes",
@@ -82,7 +82,7 @@ impl Key {
         }
     }
 
-    // Whether a verb needs the key, may have it, or never has it. An `id` belongs to the line, not to a verb.
+    // Returns whether a verb needs the key, may have it, or never has it. An `id` belongs to the line, not to a verb.
     pub(crate) fn of(self, verb: Verb) -> Use
         ensures { result ≡ use_of verb self }
     {
@@ -97,7 +97,7 @@ impl Key {
         }
     }
 
-    // Whether the value at the key is allowed.
+    // Returns whether the value at the key is allowed.
     fn is_right(self, table: &Table) -> bool
         ensures { result ≡ is_right self (table_view table.now) }
     {
@@ -113,7 +113,7 @@ impl Key {
         }
     }
 
-    // Whether the key is missing in a table with a verb, or its value is not allowed.
+    // Returns whether the key is missing in a table with a verb, or its value is not allowed.
     fn is_wrong(self, verb: Verb, table: &Table) -> bool
         ensures { result ≡ is_wrong verb (table_view table.now) self }
     {
@@ -125,14 +125,14 @@ impl Key {
     }
 }
 
-// The first key of a table with a verb that is missing, or whose value is not allowed.
+// Returns the first key of a table with a verb that is missing, or whose value is not allowed.
 pub(crate) fn wrong_key(verb: Verb, table: &Table) -> Option<Key>
     ensures { result ≡ wrong_key verb (table_view table.now) }
 {
     KEYS.iter().copied().find(|key| key.is_wrong(verb, table))
 }
 
-// The keys of a verb, including `do`.
+// Returns the keys of a verb, including `do`.
 pub(crate) fn keys_of(verb: Verb) -> &'static [&'static str]
     ensures { map (λ key. key.now) result.now ≡ keys_of verb }
 {

@@ -5,7 +5,7 @@
 //! reads; the readers of scripts check the values at its keys. There is no disk, thread or output here.
 //!
 //! Modules in reading order:
-//! - `verb` has the verbs, `request` the requests and what a table asks for, and `id` the id that an answer repeats.
+//! - `verb` has the verbs, `request` the requests and how they are read from tables, and `id` the id that an answer repeats.
 //! - `quote` follows quotation marks, and `words` reads a request in words as its document of TOML.
 //! - `object` reads a request in JSON as a table, and `line` a whole line.
 //! - `key` says which keys a verb has and which key of a table is wrong, `mistake` has the mistakes with their texts, and
@@ -13,7 +13,7 @@
 //! - `part` divides a request in words, `place` finds the column of a mistake there, and `object_place` in JSON.
 //! - `examples` has worked examples of lines.
 //!
-//! What a line asks for is defined in `specs/Line.antt`, `specs/Words.antt`, `specs/Json.antt` and `specs/Request.antt`, and
+//! The request of a line is defined in `specs/Line.antt`, `specs/Words.antt`, `specs/Json.antt` and `specs/Request.antt`, and
 //! which fault a table has in `specs/Key.antt`.
 #![tactic(auto)]
 

@@ -26,7 +26,7 @@ pub enum Spelling {
     Json,
 }
 
-/// What a line is.
+/// The meaning of a line.
 #[derive(Debug, Drop)]
 pub enum Line {
     /// It is empty, has only blanks, or begins with `#`; it is not answered.
@@ -37,7 +37,7 @@ pub enum Line {
         spelling: Spelling,
         request: Request,
     },
-    /// It is no request. Its id is given back, if it is valid.
+    /// It is no request. Its id is returned, if it is valid.
     Wrong {
         id: Option<Id>,
         spelling: Spelling,
@@ -111,7 +111,7 @@ fn read_text(alloc: Global, text: &str, spelling: Spelling) -> Result<Line, Allo
     }
 }
 
-// A wrong line without an id.
+// Returns a wrong line without an id.
 fn wrong(spelling: Spelling, column: Option<usize>, fault: Fault) -> Line
     ensures { result ≡ Line.Wrong None spelling (record { column = column; fault = fault }) }
 {
@@ -122,7 +122,7 @@ fn wrong(spelling: Spelling, column: Option<usize>, fault: Fault) -> Line
     }
 }
 
-// The text of a line, without a carriage return at its end.
+// Returns the text of a line, without a carriage return at its end.
 fn text_of(octets: &[u8]) -> &[u8]
     ensures { result.now ≡ text_of octets.now }
 {
@@ -132,7 +132,7 @@ fn text_of(octets: &[u8]) -> &[u8]
     }
 }
 
-// Whether a text is empty, has only blanks, or begins with a number sign.
+// Returns whether a text is empty, has only blanks, or begins with a number sign.
 fn is_nothing(text: &[u8]) -> bool
     ensures { result ≡ is_nothing text.now }
 {
@@ -145,7 +145,7 @@ fn are_blank(text: &[u8]) -> bool
     text.iter().all(|octet| is_blank(*octet))
 }
 
-// How a text is spelled.
+// Returns how a text is spelled.
 fn spelling_of(text: &[u8]) -> Spelling
     ensures { result ≡ spelling_of text.now }
 {
@@ -156,7 +156,7 @@ fn spelling_of(text: &[u8]) -> Spelling
     }
 }
 
-// Whether a text begins with this octet, which is not 00.
+// Returns whether a text begins with this octet, which is not 00.
 pub(crate) fn begins_with(text: &[u8], octet: u8) -> bool
     requires { 0 < octet }
     ensures { result ≡ (slice_index text.now 0 == octet) }

@@ -8,7 +8,7 @@ use strsim::jaro;
 // A word may be meant for another if their likeness is above this number. Keys of scripts are compared the same way.
 const LEAST_ALIKE: f64 = 0.7;
 
-// The verb that is most like a word, if one is like it.
+// Returns the verb that is most like a word, if one is like it.
 pub(crate) fn nearest_verb(alloc: Global, word: &str) -> Result<Option<Verb>, AllocError> {
     let mut nearest = None;
     let mut most = LEAST_ALIKE;
@@ -22,7 +22,7 @@ pub(crate) fn nearest_verb(alloc: Global, word: &str) -> Result<Option<Verb>, Al
     Ok(nearest)
 }
 
-// The key of a verb that is most like a word, if one is like it. `do` is never meant, since it is there if a verb is known.
+// Returns the key of a verb that is most like a word, if one is like it. `do` is never meant, since it is there if a verb is known.
 pub(crate) fn nearest_key(
     alloc: Global,
     verb: Verb,

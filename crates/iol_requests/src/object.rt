@@ -28,7 +28,7 @@ pub(crate) struct Reading {
     pub(crate) said: Result<Request, Mistake>,
 }
 
-// Reads what a text in JSON asks for, or what is wrong in it.
+// Reads the request of a text in JSON, or finds what is wrong in it.
 //
 // # Errors
 // `AllocError` if it is out of memory.
@@ -51,7 +51,7 @@ pub(crate) fn read_json(alloc: Global, text: &str) -> Result<Reading, AllocError
     }
 }
 
-// Reads what a value asks for, or what is wrong in it.
+// Reads the request of a value, or finds what is wrong in it.
 fn read_value(alloc: Global, text: &str, value: &Json) -> Result<Reading, AllocError>
     ensures request { IfOk result (λ reading. IfOk reading.said (λ request.
         asking_of (value_view value.now) ≡ Some (record { id = option_map id_value reading.id; request = request }))) }
@@ -70,7 +70,7 @@ fn read_value(alloc: Global, text: &str, value: &Json) -> Result<Reading, AllocE
     }
 }
 
-// The id of a value: `Some(None)` if it is missing, `None` if it is not valid.
+// Returns the id of a value: `Some(None)` if it is missing, `None` if it is not valid.
 fn id_at(alloc: Global, value: &Json) -> Result<Option<Option<Id>>, AllocError>
     ensures { IfOk result (λ id. option_map (option_map id_value) id ≡ id_at (value_view value.now)) }
 {
@@ -83,7 +83,7 @@ fn id_at(alloc: Global, value: &Json) -> Result<Option<Option<Id>>, AllocError>
     }
 }
 
-// The id in a value, if it is one.
+// Returns the id in a value, if it is one.
 fn id_of(alloc: Global, value: &Json) -> Result<Option<Id>, AllocError>
     ensures { IfOk result (λ id. option_map id_value id ≡ id_of (value_view value.now)) }
 {
@@ -99,7 +99,7 @@ fn id_of(alloc: Global, value: &Json) -> Result<Option<Id>, AllocError>
     }
 }
 
-// Reads what a value asks for, without its id.
+// Reads the request of a value, without its id.
 fn read_request(
     alloc: Global,
     text: &str,
@@ -117,7 +117,7 @@ fn read_request(
     }
 }
 
-// Reads what members ask for.
+// Reads the request of members.
 fn read_members(
     alloc: Global,
     text: &str,
@@ -136,7 +136,7 @@ fn read_members(
     }
 }
 
-// Whether all keys are distinct.
+// Returns whether all keys are distinct.
 fn are_distinct(members: &[(&str, Json)]) -> bool
     ensures { result ≡ are_distinct (keys (members_view members.now)) }
 {
@@ -146,7 +146,7 @@ fn are_distinct(members: &[(&str, Json)]) -> bool
     }
 }
 
-// Whether one of these members has a key.
+// Returns whether one of these members has a key.
 pub(crate) fn has_key(members: &[(&str, Json)], key: &str) -> bool
     ensures { result ≡ is_among (keys (members_view members.now)) key.now }
 {
@@ -200,7 +200,7 @@ fn value_of(alloc: Global, value: &Json) -> Result<Value, AllocError>
     }
 }
 
-// The whole number that digits write, of 0 to 2^63 - 1.
+// Returns the whole number that digits write, of 0 to 2^63 - 1.
 fn number_in(digits: &str) -> Option<u64>
     ensures number { result ≡ number_in digits.now }
     ensures bound { IfSome result (λ number. number < 2 ^ 63) }

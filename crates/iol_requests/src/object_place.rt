@@ -7,7 +7,7 @@ use crate::word::shown;
 use json::{MAX_DEPTH, Reader, Scratch, Value as Json};
 use std::alloc::{AllocError, Global};
 
-// The mistake in a text that is not JSON, at the place where its reader stopped.
+// Returns the mistake in a text that is not JSON, at the place where its reader stopped.
 pub(crate) fn not_json(alloc: Global, text: &str) -> Result<Mistake, AllocError> {
     let mut scratch = Scratch::new(alloc);
     let column = match Reader::new(text, &mut scratch) {
@@ -23,7 +23,7 @@ pub(crate) fn not_json(alloc: Global, text: &str) -> Result<Mistake, AllocError>
     })
 }
 
-// The mistake in a request in JSON. Its column is that of the key, if the key is found.
+// Returns the mistake in a request in JSON. Its column is that of the key, if the key is found.
 pub(crate) fn place_of(text: &str, fault: Fault) -> Mistake {
     let place = match &fault {
         Fault::WrongValue { key } => find_key(text, key.name(), 0),
@@ -37,7 +37,7 @@ pub(crate) fn place_of(text: &str, fault: Fault) -> Mistake {
     }
 }
 
-// The mistake in members that have a key twice. Its column is that of the second one.
+// Returns the mistake in members that have a key twice. Its column is that of the second one.
 pub(crate) fn twice_in(text: &str, members: &[(&str, Json)]) -> Mistake {
     for (number, member) in members.iter().enumerate() {
         if has_key(&members[..number], member.0) {
@@ -61,7 +61,7 @@ fn second_place(text: &str, key: &str) -> Option<usize> {
     find_key(text, key, first.saturating_add(1))
 }
 
-// The first place from this one on where a key begins, if it is written without escapes.
+// Returns the first place from this one on where a key begins, if it is written without escapes.
 fn find_key(text: &str, key: &str, from: usize) -> Option<usize> {
     for place in from..text.len() {
         if begins_with_key(text.get(place..).unwrap_or(""), key) {
@@ -71,7 +71,7 @@ fn find_key(text: &str, key: &str, from: usize) -> Option<usize> {
     None
 }
 
-// Whether a text begins with a key in quotes and a colon.
+// Returns whether a text begins with a key in quotes and a colon.
 fn begins_with_key(text: &str, key: &str) -> bool {
     match after_quoted(text, key) {
         Some(after) => after.trim_start().starts_with(':'),
@@ -79,7 +79,7 @@ fn begins_with_key(text: &str, key: &str) -> bool {
     }
 }
 
-// The text after a word in quotes, if the text begins with it.
+// Returns the text after a word in quotes, if the text begins with it.
 fn after_quoted<'t>(text: &'t str, word: &str) -> Option<&'t str> {
     text.strip_prefix('"')?
         .strip_prefix(word)?

@@ -11,12 +11,12 @@ pub(crate) struct Part {
 }
 
 impl Part {
-    // The octets of the part.
+    // Returns the octets of the part.
     pub(crate) fn of(self, text: &str) -> &str {
         text.get(self.start..self.end).unwrap_or("")
     }
 
-    // Its key: what is before its first equals sign.
+    // Returns its key: what is before its first equals sign.
     pub(crate) fn key(self, text: &str) -> Option<&str> {
         let (key, _) = self.of(text).split_once('=')?;
         Some(key)
@@ -47,7 +47,7 @@ fn push_part(parts: &mut Vec<Part>, start: usize, end: usize) -> Result<(), Allo
     Ok(())
 }
 
-// The column of the octet at a place of a text, counted in characters from 1.
+// Returns the column of the octet at a place of a text, counted in characters from 1.
 pub(crate) fn column_of(text: &[u8], place: usize) -> usize {
     let mut column = 1usize;
     for octet in text.get(..place).unwrap_or(text) {

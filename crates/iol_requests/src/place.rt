@@ -6,10 +6,10 @@ use crate::word::shown;
 use std::alloc::{AllocError, Global};
 use toml::de::Error;
 
-// The number of octets that the document of a request has more before its first pair: `do = "` and `"`.
+// The number of octets by which the document of a request is longer before its first pair: `do = "` and `"`.
 const HEAD_OCTETS: usize = 7;
 
-// The mistake in a request in words whose document is valid TOML. Its column is that of the key, if there is one.
+// Returns the mistake in a request in words whose document is valid TOML. Its column is that of the key, if there is one.
 pub(crate) fn place_of(alloc: Global, text: &str, fault: Fault) -> Result<Mistake, AllocError> {
     let parts = parts_of(alloc, text)?;
     Ok(Mistake {
@@ -30,7 +30,7 @@ fn column_in(text: &str, parts: &[Part], fault: &Fault) -> Option<usize> {
     None
 }
 
-// Whether a fault is about this key, which is written without quotes.
+// Returns whether a fault is about this key, which is written without quotes.
 fn has_fault(key: &str, fault: &Fault) -> bool {
     match fault {
         Fault::WrongValue { key: wrong } => key == wrong.name(),
@@ -39,8 +39,8 @@ fn has_fault(key: &str, fault: &Fault) -> bool {
     }
 }
 
-// The mistake in a request in words whose document is not TOML: a part without an equals sign, a repeated key, or what the parser
-// of TOML found.
+// Returns the mistake in a request in words whose document is not TOML: a part without an equals sign, a repeated key, or what
+// the parser of TOML found.
 pub(crate) fn mistake_of(alloc: Global, text: &str, error: &Error) -> Result<Mistake, AllocError> {
     let parts = parts_of(alloc, text)?;
     for (number, part) in parts.iter().enumerate() {
@@ -61,7 +61,7 @@ pub(crate) fn mistake_of(alloc: Global, text: &str, error: &Error) -> Result<Mis
     })
 }
 
-// What is wrong in the part of this number after the verb, if it is no pair, or if a part before it has its key.
+// Returns what is wrong in the part of this number after the verb, if it is no pair, or if a part before it has its key.
 fn fault_at(text: &str, parts: &[Part], number: usize, part: Part) -> Option<Fault> {
     if number == 0 {
         return None;
@@ -76,7 +76,7 @@ fn fault_at(text: &str, parts: &[Part], number: usize, part: Part) -> Option<Fau
     }
 }
 
-// Whether one of these parts has a key.
+// Returns whether one of these parts has a key.
 fn is_among(text: &str, parts: &[Part], key: &str) -> bool {
     parts.iter().any(|part| part.key(text) == Some(key))
 }

@@ -19,7 +19,7 @@ impl Quote {
         }
     }
 
-    // The quotation mark that an octet is, if it is one.
+    // Returns the quotation mark that an octet is, if it is one.
     fn of(octet: u8) -> Option<Quote>
         ensures { result ≡ quote_of octet }
     {
@@ -31,7 +31,7 @@ impl Quote {
     }
 }
 
-// The quotes that are open after an octet, if any.
+// Returns the quotes that are open after an octet, if any.
 pub(crate) fn within_after(within: Option<Quote>, octet: u8) -> Option<Quote>
     ensures { result ≡ within_after within octet }
 {
@@ -52,7 +52,7 @@ pub(crate) fn as_toml(within: Option<Quote>, octet: u8) -> u8
     }
 }
 
-// Whether an octet is a space or a tab.
+// Returns whether an octet is a space or a tab.
 pub(crate) fn is_blank(octet: u8) -> bool
     ensures { result ≡ is_blank octet }
 {

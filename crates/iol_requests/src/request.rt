@@ -24,14 +24,14 @@ pub enum Request {
     Quit,
 }
 
-// What a table asks for, by its verb at the key `do`.
+// Returns the request of a table, by its verb at the key `do`.
 pub(crate) fn request_in(table: &Table) -> Option<Request>
     ensures { result ≡ request_in (table_view table.now) }
 {
     request_by(verb_at(table)?, table)
 }
 
-// The verb of a table.
+// Returns the verb of a table.
 pub(crate) fn verb_at(table: &Table) -> Option<Verb>
     ensures { result ≡ verb_at (table_view table.now) }
 {

@@ -4,7 +4,7 @@ ghost use Rattle.iol_requests.specs.Verb.{verb_name, verb_of};
 
 use std::fmt;
 
-/// What a request asks for, in one word.
+/// The kind of a request, in one word.
 #[derive(Clone, Copy, Debug, PartialEq, Eq)]
 pub enum Verb {
     /// Gives a port a configuration.
@@ -35,7 +35,7 @@ pub(crate) const VERBS: [Verb; 7] = [
 ];
 
 impl Verb {
-    /// The word of the verb.
+    /// Returns the word of the verb.
     pub fn name(self) -> &'static str
         ensures { result.now ≡ verb_name self }
     {
@@ -50,7 +50,7 @@ impl Verb {
         }
     }
 
-    // The verb that has this word, if there is one.
+    // Returns the verb that has this word, if there is one.
     pub(crate) fn named(word: &[u8]) -> Option<Verb>
         ensures { result ≡ verb_of word.now }
     {

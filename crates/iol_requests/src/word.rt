@@ -9,7 +9,7 @@ pub const MOST_SHOWN: usize = 32;
 /// a word of more than 30 characters ends in `..`.
 pub type Word = ArrayString<MOST_SHOWN>;
 
-// The word as it is shown.
+// Returns the word as it is shown.
 pub(crate) fn shown(word: &str) -> Word {
     let mut text = Word::new();
     for character in word.chars() {
@@ -22,7 +22,7 @@ pub(crate) fn shown(word: &str) -> Word {
     text
 }
 
-// A character as it is printed.
+// Returns a character as it is printed.
 fn printed(character: char) -> char {
     if character.is_ascii_graphic() {
         character

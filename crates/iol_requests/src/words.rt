@@ -11,7 +11,7 @@ use crate::request::Request;
 use crate::verb::Verb;
 use std::alloc::{AllocError, Global};
 
-// Reads what a text in words asks for, or what is wrong in it.
+// Reads the request of a text in words, or finds what is wrong in it.
 //
 // # Errors
 // `AllocError` if it is out of memory.
@@ -38,7 +38,7 @@ pub(crate) fn read_words(alloc: Global, text: &str) -> Result<Result<Request, Mi
     }
 }
 
-// The verb of a text and its pairs: what is before and after the first blank.
+// Returns the verb of a text and its pairs: what is before and after the first blank.
 fn verb_and_pairs(text: &[u8]) -> (&[u8], &[u8])
     ensures verb { result.0.now ≡ before_first is_blank text.now }
     ensures pairs { result.1.now ≡ after_first is_blank text.now }
@@ -49,7 +49,7 @@ fn verb_and_pairs(text: &[u8]) -> (&[u8], &[u8])
     }
 }
 
-// The place of the first blank.
+// Returns the place of the first blank.
 fn first_blank(text: &[u8]) -> Option<usize>
     ensures place { result ≡ position is_blank text.now }
     ensures bound { IfSome result (λ place. place < length text.now) }
@@ -57,7 +57,7 @@ fn first_blank(text: &[u8]) -> Option<usize>
     text.iter().position(|octet| is_blank(*octet))
 }
 
-// The TOML document of a verb and its pairs.
+// Returns the TOML document of a verb and its pairs.
 fn document_of(alloc: Global, verb: Verb, pairs: &[u8]) -> Result<Vec<u8>, AllocError>
     ensures { IfOk result (λ document. document.items ≡ document_of verb pairs.now) }
 {

@@ -82,12 +82,12 @@ module _ (t : ℕ) {D : Type 0} where
           port_rises (nat_le port (length ports.links)) port old new ports last told is.1
       step_rises Flush old new ports last told turned is = turn_rises old.committed old new told turned is.1
 
--- a core that stays
+-- the number of a core that stays as it is does not fall
 stays_risen : (old new : CoreView) → new ≡ old → Rises old new []
 stays_risen old new same = silent_rises 0 old new [] refl (ap (λ (c : CoreView). c.number) same)
 
 module _ {D L : Type 0} (disk : D → Disk) (connection : L → ℕ) (allows : L → LinkCall → LinkAnswer → L → Type 0) where
-  -- for steps that were made from a fresh run
+  -- in steps that were made from a fresh run the acknowledged numbers rise
   pub acks_rise : (steps : List Step) (waits : ℕ) (journal : JournalView D) (links : List L) (old new : RunView D L)
       → IsFresh disk journal links old → HasMade disk connection allows steps waits old new → AcksRise journal.standing.number new.events
   acks_rise steps waits journal links old new fresh made =

@@ -43,7 +43,7 @@ module _ {D L X : Type 0} (disk : D → Disk) (connection : L → ℕ) (allows :
         tells = behind (view old.master) (view mid.master) (view new.master) now later.more one later.tells;
       }
 
-  -- for steps that were made from a fresh run
+  -- the claim holds of all events of steps that were made from a fresh run
   pub all_tell : (made : List Step) (waits : ℕ) (journal : JournalView D) (links : List L) (old new : RunView D L)
       → IsFresh disk journal links old → HasMade disk connection allows made waits old new
       → Tells (view old.master) (view new.master) new.events

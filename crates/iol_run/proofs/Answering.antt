@@ -48,7 +48,7 @@ record Knows (events : List Stamp) (core : CoreView) : Type 0 where
   runs : (HasFailure events → ⊥) → core.stopped ≡ None
   failed : HasFailure events → core.stopped ≡ Some DiskFailed
 
--- a core stays as it was, and no failure is reported; or it stops for the disk, and that is reported
+-- a core's cause to stop stays as it was, and no failure is reported; or it stops for the disk, and that is reported
 record GoesOn (old new : CoreView) (told : List Stamp) : Type 0 where
   same : new.stopped ≡ old.stopped
   none : HasFailure told → ⊥
@@ -77,7 +77,7 @@ fails_last (Some DiskFailed) = refl
 fails_last (Some OutOfMemory) = refl
 
 module _ (t : ℕ) where
-  -- events without a failure
+  -- events without a failure leave a core's cause to stop as it was
   silent_on : (old new : CoreView) (told : List Event) → told ≡ [] → new.stopped ≡ old.stopped → GoesOn old new (stamped t told)
   silent_on old new told is same = record { same = same; none = λ failed. subst (λ (es : List Event). HasFailure (stamped t es)) is failed }
 
@@ -166,7 +166,7 @@ module _ (t : ℕ) where
         step_knows number steps Flush ports last told turned is = turn_knows old.committed told turned is.1
 
 module _ (first : ℕ) (start : State) where
-  -- an event that is no answer, before others that are none
+  -- an event that is no answer, before others that are none, answers no client
   next_none : (Behind : List CommandValue → Type 0) (before : List Stamp) (e : Event) (told : List Event) (b : Bool)
       → (if b then e ∷ [] else []) ++ answers_in told ≡ [] → (answers_in told ≡ [] → Behind [])
       → AnswersNext Behind first start before [] e b
@@ -176,7 +176,7 @@ module _ (first : ℕ) (start : State) where
       no : e ∷ answers_in told ≡ [] → ⊥
       no h = cc
 
-  -- an event that answers or not, after which more is answered
+  -- an event that answers a client or none may be followed by more answers
   next_joined : (Behind Then : List CommandValue → Type 0) (before : List Stamp) (commands more : List CommandValue) (e : Event) (b : Bool)
       → ((rest : List CommandValue) → Behind rest → Then (rest ++ more)) → AnswersNext Behind first start before commands e b
       → AnswersNext Then first start before (commands ++ more) e b
@@ -189,7 +189,7 @@ module _ (first : ℕ) (start : State) where
   )
   next_joined Behind Then before commands more e false later next = later commands next
 
-  -- events that are no answers
+  -- events that are no answers answer no client
   answers_none : (t : ℕ) (before : List Stamp) (told : List Event) → answers_in told ≡ []
       → AnswersClients first start before [] (stamped t told)
   unfolding answers_in
@@ -199,7 +199,7 @@ module _ (first : ℕ) (start : State) where
       told))
       before e told (is_answer e) none (λ behind. answers_none t (before ++ record { event = e; clock = t } ∷ []) told behind)
 
-  -- events that answer more, after events that answer some
+  -- events that answer clients, and events after them that answer more, answer all of these
   answers_join : (before one two : List Stamp) (commands more : List CommandValue) → AnswersClients first start before commands one
       → AnswersClients first start (before ++ one) more two → AnswersClients first start before (commands ++ more) (one ++ two)
   answers_join before [] two commands more none behind =
@@ -314,7 +314,7 @@ module _ (first : ℕ) (start : State) where
           stands = behind.stands;
         }
 
-    -- for steps that were made from a fresh run
+    -- the events of steps that were made from a fresh run answer the clients of these steps
     pub all_answered : (made : List Step) (waits : ℕ) (journal : JournalView D) (links : List L) (old new : RunView D L)
         → first ≡ journal.standing.number → start ≡ journal.standing.state → IsFresh disk journal links old
         → HasMade disk number steps made waits old new

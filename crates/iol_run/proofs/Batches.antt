@@ -27,7 +27,7 @@ use Rattle.iol_journal.specs.declared.batch.Batch.{Batch}
 use Rattle.iol_journal.specs.Numbers.{LAST_NUMBER}
 use Rattle.iol_run.specs.CoreOnDisk.{IsInFlight, IsDurable, HasFlight, IsAtRest, IsInStep, KeepsRunning}
 
--- the batch that a core gives is the first of what waits, and in flight then
+-- the batch that a core gives is the first of the waiting commands, and is then in flight
 pub taken_flight : (old new : CoreView) (room : ℕ) (batch : Batch) → IsTaken old room new batch
     → IsInFlight new (values batch.commands.items)
 taken_flight old new room batch is = record {
@@ -148,7 +148,7 @@ module _ {D : Type 0} where
       published (Writing w) list has durable flight = absurd has
       published (Failed d f) list has durable flight = absurd has
 
-  -- the list that is published then
+  -- the published list then ends with the commands of the batch
   list_is : (s : FlushStage D) (list : List CommandValue) (new : FlusherView D) (committed : CommittedView)
       → HasPublished s list new committed
       → new.published ≡ list ++ committed.commands
@@ -161,7 +161,7 @@ module _ {D : Type 0} where
   list_is (Writing w) list new committed has = absurd has
   list_is (Failed d f) list new committed has = absurd has
 
-  -- and the list that was published before
+  -- the commands before the batch are the list that was published before
   pub before_is : (s : FlushStage D) (list : List CommandValue) (new : FlusherView D) (committed : CommittedView)
       → HasPublished s list new committed
       → committed.before ≡ list
@@ -200,7 +200,7 @@ in_flight start core committed durable is = record {
       ∙ (ap (take (length committed.commands)) is.queue ∙ take-append_seam committed.commands is.behind));
 }
 
--- the queue after the batch is acknowledged
+-- after the batch is acknowledged, the queue has the commands after it
 acknowledged_queue : (core : CoreView) (commands seen : List CommandValue) → IsInFlight core commands → (acknowledged core seen).queue
     ≡ drop (length commands) core.queue
 acknowledged_queue core commands seen is = ap (λ (n : ℕ). drop n core.queue) is.flight

@@ -105,7 +105,7 @@ module _ {D : Type 0} where
         was);
   }
 
-  -- and the run continues
+  -- a call of a port continues the run of the journal
   pub call_running : (disk : D → Disk) (start : Start) (call : Call) (old new : CoreView) (heard : Reply) (flusher : FlusherView D)
       (committed : Option CommittedView)
       → Replies call old new heard → Passes call old heard → IsInStep start old flusher committed
@@ -115,7 +115,7 @@ module _ {D : Type 0} where
       let becomes = replied 0 call old new heard is in
       changed_running disk start old new becomes.change flusher committed becomes.new_is (becomes.passing passes) step
 
-  -- a step of a port, after which all waiting commands are legal
+  -- a step of a port continues the run of the journal, if all waiting commands are legal after it
   pub stepped_running : (disk : D → Disk) (start : Start) (old new : CoreView) (told : List Event) (flusher : FlusherView D)
       (committed : Option CommittedView)
       → Becomes ⊥ old new told → legal new.durable new.queue ≡ true → IsInStep start old flusher committed

@@ -68,7 +68,7 @@ step_later old new told (Stays same sound) = subst (λ (d : Disk). IsLater old d
 step_later old new told (Makes calls left made silent) = first_later calls left old new made
 step_later old new told (Fails calls left why failed telling) = failed_later calls left why old new failed
 
--- events with the clock at the end, after others
+-- the clocks of events rise if all of them have one clock, which is not before that of the events before them
 rise_stamped : (before t : ℕ) (told : List Event) → before ≤ t → ClocksRise before t (stamped t told)
 rise_stamped before t [] le = le
 rise_stamped before t (e ∷ told) le = (le, rise_stamped t t told (omega arith))
@@ -85,7 +85,7 @@ module _ {D L : Type 0} (disk : D → Disk) (connection : L → ℕ) (allows : L
   abbrev HasRisen : ℕ → RunView D L → Type 0
   HasRisen begun run = ClocksRise begun (clock_of disk run.master) run.events
 
-  -- what a run's clocks were, and what they are
+  -- the clock of a run's disk does not go back, and the clocks of its events rise
   record GoesLater (begun : ℕ) (old new : RunView D L) : Type 0 where
     begun_is : new.begun ≡ old.begun
     later : IsLater (disk_at old) (disk_at new)
@@ -110,7 +110,7 @@ module _ {D L : Type 0} (disk : D → Disk) (connection : L → ℕ) (allows : L
             (rise_more begun (clock_of disk old.master) (clock_of disk mid.master) old.events made.3.0 was (one.clocks h)));
       }
 
-  -- for a schedule that was run from a fresh run
+  -- the clocks of a schedule that was run from a fresh run rise
   pub clocks_rise : (steps : List Step) (waits : ℕ) (journal : JournalView D) (links : List L) (old new : RunView D L)
       → IsFresh disk journal links old
       → HasMade disk connection allows steps waits old new → IsTrue (disk_at new).honest

@@ -31,7 +31,7 @@ module _ (first : ℕ) (start : State) where
   abbrev pub Stands : List Stamp → CoreView → Type 0
   Stands events core = engine.Stands first start events core
 
-  -- of a run before its first step
+  -- before its first step the core of a run is as the events say
   pub fresh_stands : {D L : Type 0} (disk : D → Disk) (journal : JournalView D) (links : List L) (run : RunView D L)
       → first ≡ journal.standing.number → start ≡ journal.standing.state → IsFresh disk journal links run
       → Stands run.events run.master.core
@@ -109,7 +109,7 @@ module _ (first : ℕ) (start : State) where
           (core_after.acknowledges first start t events new.core.seen old.core new.core is.1.0 was)
       turn_stands None t events old new told turned is was = serves_stands (met_by old) t events old new told turned is was
 
-      -- a step of a run
+      -- after a step of a run its core is as the events say
       pub step_stands : {L : Type 0} (number : L → ℕ) (steps : L → LinkCall → LinkAnswer → L → Type 0) (step : Step) (t : ℕ)
           (events : List Stamp)
           (old new : CoreOnDiskView D) (ports last : PortsView L) (told : List Event) (turned : Turned)

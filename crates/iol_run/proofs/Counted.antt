@@ -62,7 +62,7 @@ alike_same old new same = record {
 }
 
 module _ (first t : ℕ) where
-  -- more events, after which the numbers of accepted and acknowledged commands are those of the core
+  -- more events keep the counts, if the numbers of accepted and acknowledged commands after them are those of the core
   more_counted : (old new : CoreView) (events more : List Stamp)
       → length (accepted more) + (old.number + length old.queue) ≡ new.number + length new.queue → acked old.number more ≡ new.number
       → (writes_no_more new.stopped ≡ true → HasFailure (events ++ more)) → IsCounted first old events
@@ -75,7 +75,7 @@ module _ (first t : ℕ) where
     failure = failed;
   }
 
-  -- the cause to stop stays
+  -- a failure that the core knows stays reported, if its cause to stop stays
   stays_told : (old new : CoreView) (events more : List Stamp) → new.stopped ≡ old.stopped → IsCounted first old events
       → writes_no_more new.stopped ≡ true → HasFailure (events ++ more)
   stays_told old new events more same was failed = failure_stays events more (was.failure (ap writes_no_more (sym same) ∙ failed))
@@ -87,7 +87,7 @@ module _ (first t : ℕ) where
       (more_counted old new events [] (omega (arith, same.number, same.waits)) (sym same.number)
       (stays_told old new events [] same.stopped was) was)
 
-  -- events that accept and acknowledge nothing
+  -- events that accept and acknowledge nothing keep the counts
   quiet_counted : (old new : CoreView) (events : List Stamp) (told : List Event) → AreQuiet told → IsAlike old new
       → IsCounted first old events
       → IsCounted first new (events ++ stamped t told)
@@ -95,7 +95,7 @@ module _ (first t : ℕ) where
       more_counted old new events (stamped t told) (omega (arith, ap length (quiet_accepted t told quiet), same.number, same.waits))
       (quiet_acked t old.number told quiet ∙ sym same.number) (stays_told old new events (stamped t told) same.stopped was) was
 
-  -- what a call of a port makes of the core
+  -- a call of a port keeps the counts
   becomes_counted : (P : Type 0) (old new : CoreView) (events : List Stamp) (told : List Event) → Becomes P old new told
       → IsCounted first old events
       → IsCounted first new (events ++ stamped t told)
@@ -208,7 +208,7 @@ module _ (first t : ℕ) where
       turn_counted None old new events told turned there is served was =
           serves_counted (met_by old) old new events told turned is was
 
-      -- a step of a port: its call, and then its status
+      -- a step of a port, its call and then its status, keeps the counts
       port_counted : {L : Type 0} (number : L → ℕ) (steps : L → LinkCall → LinkAnswer → L → Type 0) (there : Bool) (port : ℕ)
           (old new : CoreOnDiskView D)
           (ports last : PortsView L) (events : List Stamp) (told : List Event) → StepsIf number steps there port old new ports last told
@@ -221,7 +221,7 @@ module _ (first t : ℕ) where
           (becomes_counted ⊥ old.core new.core events is.called becomes.0 was)))
       port_counted number steps false port old new ports last events told is was = same_counted old new events told is.0 is.2 was
 
-      -- each step keeps it
+      -- each step keeps the counts
       pub step_counted : {L : Type 0} (number : L → ℕ) (steps : L → LinkCall → LinkAnswer → L → Type 0) (step : Step)
           (old new : CoreOnDiskView D)
           (ports last : PortsView L) (events : List Stamp) (told : List Event) (turned : Turned)

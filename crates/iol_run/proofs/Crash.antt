@@ -1,4 +1,4 @@
--- What a power stop leaves of a run, from its begin to its end.
+-- What a power stop leaves of a run, from its beginning to its end.
 use Rattle.std.proofs.Common.{◌≡◌, ℕ, IsTrue, List, [], Result, Ok, Err, IfOk, sym, ap, ◌∙◌, subst}
 use Rattle.iol_types.specs.Command.{CommandValue}
 use Rattle.iol_types.specs.State.{State}
@@ -48,7 +48,7 @@ module _ {D : Type 0} (disk : D → Disk) (start : Start) where
       at : run.begun ≡ clock (disk j.disk).content
       at = fresh.begun ∙ ap (λ (s : FlushStage D). clock (disk (disk_of s)).content) fresh.stage
 
-  -- and what a stop leaves of it
+  -- each image that a stop leaves of a run has all commands acknowledged by then, and after them only the next ones
   pub leaves : {L : Type 0} (run : RunView D L) → IsTold start run.master run.events → IsMarked disk start run
       → CrashPrefix (disk (disk_of run.master.flusher.stage)) run.begun start.number start.state run.events
   leaves run told marked = crash_prefix d run.begun start.number start.state run.events here.passes told.rise here.images
@@ -87,7 +87,7 @@ means_is sectors image s first state stands means = one_meaning s.number first s
     same : meaning_of s.number s.state ≡ meaning_of first state
     same = sym (ap (λ (r : Result Standing Cause). r >>= λ s. Ok (record { number = s.number; state = s.state })) stands) ∙ means
 
--- a fact of a trace, under what is known of the disk
+-- a fact of a trace holds, given what is known of the disk
 pub of_trace : {D L : Type 0} (result : Result (Trace D L) (RunFault D)) (d : Disk) (P : ℕ → State → Trace D L → Type 0)
     → (IsTrue d.honest → IsKept d.sectors (reads d.content) → (first : ℕ) (start : State)
     → meaning d.sectors (reads d.content) ≡ Ok (record { number = first; state = start }) → IfOk result (P first start))

@@ -1,4 +1,4 @@
--- What a step makes of the disk, and what it reports of that.
+-- The effect of a step on the disk, and what the step reports of it.
 use Rattle.std.proofs.Common.{◌≡◌, refl, ⊎_elim, ℕ, nat_le, Bool, true, false, List, [], ◌∷◌, ◌++◌, length, Option, Some, None, Result, Ok}
 use Rattle.std.proofs.Common.{Err, ap, sym, subst}
 use Rattle.iol_types.specs.Command.{CommandValue, command_of}
@@ -55,7 +55,7 @@ submitting : (told : List Event) (command : CommandValue) (answer : Result ℕ S
 submitting told command (Ok n) is = telling told _ is (λ never. never)
 submitting told command (Err f) is = telling told _ is (λ never. never)
 
--- a call of a port, and its status
+-- a call of a port reports no failure, and neither does its status
 changing : (old : CoreView) (change : Change) (told : List Event) → Tells old change told → TellsNone told
 changing old (Permits permits) told tells t failed = quiet_fails t told tells failed
 changing old (Waits command permits) told tells t failed = telling told _ tells (λ never. never) t failed
@@ -137,7 +137,7 @@ module _ {D : Type 0} (disk : D → Disk) where
         quiet_fails t is.status becomes.1 failed)))
     port_step false port old new ports last told is = master_same old new told is.0 (silent told is.2)
 
-    -- each step does so
+    -- each step does one of these
     pub disk_step : (step : Step) (old new : CoreOnDiskView D) (ports last : PortsView L) (told : List Event) (turned : Turned)
         → Does disk connection allows step old new ports last told turned → StageStep old.flusher.stage new.flusher.stage told
     disk_step (Client change) old new ports last told turned is =

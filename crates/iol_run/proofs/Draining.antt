@@ -59,7 +59,7 @@ module _ {D : Type 0} (layout : Layout) (disk : D → Disk) where
       (subst (λ (c : Option CommittedView). IsServed layout old.core old.flusher.stage c) there was) sound
 
 module _ {D L : Type 0} (disk : D → Disk) (connection : L → ℕ) (allows : L → LinkCall → LinkAnswer → L → Type 0) where
-  -- the last of the tasks that were done
+  -- the last of the tasks that were done was done after the others
   last_done : (before : List Task) (task : Task) (made : List Step) (waits : ℕ) (old new : RunView D L)
       → HasDoneAll disk connection allows (before ++ task ∷ []) made waits old new
       → (mid : RunView D L) × (front last : List Step) × (early late : ℕ) × HasMade disk connection allows front early old mid

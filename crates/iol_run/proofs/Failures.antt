@@ -22,7 +22,7 @@ use Rattle.iol_run.specs.declared.schedule.RunFault.{RunFault}
 use Rattle.iol_run.specs.declared.schedule.Trace.{Trace}
 use Rattle.iol_run.specs.declared.step.Step.{Step}
 
--- which failures are reported, and that the count of them does not fall
+-- a failure is reported exactly if it was counted, and the count does not fall
 record Counts (old new : Disk) (told : List Stamp) : Type 0 where
   pub tells : TellsFailures old new told
   pub most : old.failures ≤ new.failures
@@ -75,7 +75,7 @@ module _ {D L : Type 0} (disk : D → Disk) (connection : L → ℕ) (allows : L
   abbrev disk_in : CoreOnDiskView D → Disk
   disk_in master = disk (disk_of master.flusher.stage)
 
-  -- for steps that were made from a fresh run
+  -- steps that were made from a fresh run report a failure exactly if it was counted
   pub tells_failures : (steps : List Step) (waits : ℕ) (journal : JournalView D) (links : List L) (old new : RunView D L)
       → IsFresh disk journal links old
       → HasMade disk connection allows steps waits old new → TellsFailures (disk journal.disk) (disk_in new.master) new.events
@@ -87,7 +87,7 @@ module _ {D L : Type 0} (disk : D → Disk) (connection : L → ℕ) (allows : L
       (disk_step disk connection allows step old new ports last told turned does))
       steps waits journal links old new fresh made).tells
 
--- and of the disk that was recovered
+-- events that report the failures since the recovery report those since before it
 recovered_tells : (given recovered new : Disk) (events : List Stamp) → Made (sync ∷ []) given recovered → TellsFailures recovered new events
     → TellsFailures given new events
 recovered_tells given recovered new events made tells = record {

@@ -11,7 +11,7 @@ use Rattle.iol_run.specs.declared.turn.Turned.{Turned}
 use Rattle.iol_run.specs.declared.turn.Turned.TheVariants.{Made, Idle, Waited}
 
 module _ {A : Type 0} (say : List Event → List A) where
-  -- words on events that say nothing of acknowledgements and failures
+  -- a function of events that gives nothing for acknowledgements and failures
   pub record PassesOver : Type 0 where
     pub none : say [] ≡ []
     pub acknowledged : (n : ℕ) → say (Acknowledged n ∷ []) ≡ []

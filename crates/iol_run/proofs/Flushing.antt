@@ -28,7 +28,7 @@ none_waited : (count waits : ℕ) → IsCountOf count waits → count ≡ 0 → 
 none_waited count waits counts none = grind (arith, counts, none)
 
 module _ {D L : Type 0} (disk : D → Disk) (connection : L → ℕ) (allows : L → LinkCall → LinkAnswer → L → Type 0) where
-  -- steps that were made in two parts
+  -- if steps in two parts were made, the second part was made after the first
   made_parts : (front rest : List Step) (waits : ℕ) (old new : RunView D L) → HasMade disk connection allows (front ++ rest) waits old new
       → (mid : RunView D L) × (early late : ℕ) × HasMade disk connection allows front early old mid × (waits ≡ early + late)
       × HasMade disk connection allows rest late mid new
@@ -93,7 +93,7 @@ module _ {D L : Type 0} (disk : D → Disk) (connection : L → ℕ) (allows : L
         failure_told : HasFailure old.events → HasFailure mid.events
         failure_told failed = steps_told (Flush ∷ []) (waits_of made.0) old mid (made.0, 0, mid, made.3, omega arith, (refl, refl)) failed
 
-    -- a run before its first step
+    -- it holds of a run before its first step
     pub fresh_holds : (journal : JournalView D) (links : List L) (run : RunView D L)
         → IsFresh disk journal links run → renewed journal.standing.layout ≡ layout → journal.standing.number ≡ first → Holds run
     fresh_holds journal links run fresh same number = record {
@@ -126,7 +126,7 @@ module _ {D L : Type 0} (disk : D → Disk) (connection : L → ℕ) (allows : L
         let all = mul-le-mul_left (batch_turns layout) is.served.few_wait in
         omega (arith, left, all)
 
-    -- if enough turns end a schedule
+    -- if enough turns end a schedule, all that was accepted is acknowledged
     turns_end : (front : List Step) (n waits : ℕ) (old new : RunView D L)
         → HasMade disk connection allows (front ++ replicate n Flush) waits old new → Holds old → waits ≡ 0
         → (HasFailure new.events → ⊥) → queue_turns layout ≤ n → acked first new.events ≡ first + length (accepted new.events)
@@ -140,7 +140,7 @@ module _ {D L : Type 0} (disk : D → Disk) (connection : L → ℕ) (allows : L
         (λ (failed : writes_no_more new.master.core.stopped ≡ true). sound (last.counted.failure failed)) left in
         omega (arith, last.counted.acked_is, last.counted.count, empty)
 
-    -- for steps that were made from a fresh run; the count of those that waited is 0 only if there were none
+    -- it does so for steps that were made from a fresh run; the count of the turns that waited is 0 only if none waited
     pub all_flushed : (steps : List Step) (waits count : ℕ) (journal : JournalView D) (links : List L) (old new : RunView D L)
         → IsFresh disk journal links old → renewed journal.standing.layout ≡ layout → journal.standing.number ≡ first
         → HasMade disk connection allows steps waits old new → IsCountOf count waits

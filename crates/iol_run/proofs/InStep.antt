@@ -71,12 +71,12 @@ module _ {D : Type 0} where
   submit_in_step start old new command flusher committed (Err f) is was =
       subst (λ (c : CoreView). IsInStep start c flusher committed) (sym is.1) was
 
--- what waits after a batch that is in flight
+-- the queue without the batch in flight is what waits after it
 pub behind_flight : (core : CoreView) (commands : List CommandValue) (is : IsInFlight core commands) → drop (length commands) core.queue
     ≡ is.behind
 behind_flight core commands is = ap (drop (length commands)) is.queue ∙ drop-append_seam commands is.behind
 
--- the published list and what waits after it, if a batch is published and not yet acknowledged
+-- if a batch is published and not yet acknowledged, the published list and what waits after it are the list before it and the queue
 pub all_of : (core : CoreView) (published before commands : List CommandValue) → published ≡ before ++ commands
     → (is : IsInFlight core commands)
     → published ++ drop (length commands) core.queue ≡ before ++ core.queue
@@ -95,7 +95,7 @@ live_is start core flusher (Some committed) is =
     ap (after start.state) (all_of core flusher.published committed.before committed.commands is.1 is.2)
     ∙ (fold-append apply start.state committed.before core.queue ∙ ap (λ (s : State). after s core.queue) (sym is.0.state))
 
--- how many were accepted
+-- the number of accepted commands is that of the durable ones and of those that wait
 pub count_is : {D : Type 0} (start : Start) (core : CoreView) (flusher : FlusherView D) (committed : Option CommittedView)
     → IsInStep start core flusher committed
     → start.number + length (flusher.published ++ waiting_of committed core) ≡ core.number + length core.queue
@@ -104,7 +104,7 @@ count_is start core flusher (Some committed) is =
     ap (λ (cs : List CommandValue). start.number + length cs) (all_of core flusher.published committed.before committed.commands is.1 is.2)
     ∙ omega (arith, length-append committed.before core.queue, is.0.number)
 
--- one more waits after the published list
+-- one more command waits after the published list
 pub waits_more : {D : Type 0} (start : Start) (core : CoreView) (flusher : FlusherView D) (committed : Option CommittedView)
     (command : CommandValue)
     → IsInStep start core flusher committed → waiting_of committed (queued core command) ≡ waiting_of committed core ++ command ∷ []

@@ -1,5 +1,4 @@
--- The layout of the journal that a disk shows: turns enough for a full queue are within 128 for each of its sectors, whatever
--- version it has.
+-- The layout of the journal that a disk shows: the turns for a full queue are at most 128 for each of its sectors, whatever version it has.
 use Rattle.std.proofs.Common.{◌≡◌, ◌≤◌, ℕ, ◌*◌, true, List, Ok, refl, ap, sym, ◌∙◌, subst, arith}
 use Rattle.iol_record.specs.Record.{newest, is_newest}
 use Rattle.iol_record.specs.declared.version.Version.{Version}
@@ -20,7 +19,7 @@ within layout sectors ports some wide is =
     let records : 17 ≤ layout.port_sectors * layout.ports = subst (λ (n : ℕ). 17 ≤ n * layout.ports) (sym wide) (omega (arith, ports)) in
     omega (arith, records, some, is)
 
--- the record of a port in the version that is written
+-- the record of a port has 17 sectors in the version that is written
 wide_ports : (layout : Layout) → IsLayout layout → (renewed layout).port_sectors ≡ 17
 wide_ports layout is =
     ap (λ (l : Layout). l.port_sectors) (renewed-is layout is).so

@@ -56,13 +56,13 @@ module _ (q t : ℕ) where
   core_calls port call (input.Octets os) old new told is = absurd is
   core_calls port call input.Lost old new told is = absurd is
 
-  -- nor does a status
+  -- a status has no events of a link
   status_calls : (old new : PortValue) (told : List Event) → IsStatusTold old new told → calls_told q (stamped t told) ≡ []
   status_calls old new told (inl is) = ap (λ (es : List Event). calls_told q (stamped t es)) is.0
   status_calls old new told (inr is) = ap (λ (es : List Event). calls_told q (stamped t es)) is.0
 
 module _ {L : Type 0} (connection : L → ℕ) (allows : L → LinkCall → LinkAnswer → L → Type 0) where
-  -- the events of a link: a run of it if the port is this one, and else none
+  -- the events of a link: a run of it if the port is this one, and otherwise none
   abbrev pub TellsLink : Bool → ℕ → List Stamp → L → L → Type 0
   TellsLink true q events first last = IsLinkRun connection allows q events first last
   TellsLink false q events first last = calls_told q events ≡ []
@@ -131,7 +131,7 @@ module _ {L : Type 0} (connection : L → ℕ) (allows : L → LinkCall → Link
         ∙ (calls-append q (stamped t called) (stamped t status)
         ∙ (ap (λ (cs : List Answered). cs ++ calls_told q (stamped t status)) one ∙ two))
 
-    -- a step of a port
+    -- the events of a step of a port are a run of its link
     pub step_link : (same : Bool) (before after : PortValue) → nat_eq before.port q ≡ same
         → (first last : L) (old new : CoreView) (called status : List Event)
         → PortStep connection allows before after first last old new called status

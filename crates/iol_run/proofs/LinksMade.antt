@@ -42,13 +42,13 @@ module _ (q t : ℕ) where
   flusher_calls = record { none = refl; acknowledged = λ n. refl; failed = refl }
 
 module _ {L : Type 0} (connection : L → ℕ) (allows : L → LinkCall → LinkAnswer → L → Type 0) where
-  -- the link of a place, and its events
+  -- the link at a place after these events, which are a run of it
   pub record Links (links last : List L) (more : List Stamp) (place : ℕ) (before : L) : Type 0 where
     pub after : L
     pub there : slice_get last place ≡ Some after
     pub run : IsLinkRun connection allows (place + 1) more before after
 
-  -- what the ports have become, and the events of their links
+  -- the ports after these events, and a run of the link of each
   pub record GoesOn (ports last : PortsView L) (more : List Stamp) : Type 0 where
     pub count : length last.links ≡ length ports.links
     pub places : HavePlaces last.machines
@@ -182,7 +182,7 @@ module _ {L : Type 0} (connection : L → ℕ) (allows : L → LinkCall → Link
           on = goes_further old.ports mid.ports new.ports (stamped t made.3.0) rest.more one rest.on;
         }
 
-    -- for a schedule that was run from a fresh run
+    -- in a schedule that was run from a fresh run, the events of each port are a run of its link
     pub all_link_runs : (steps : List Step) (waits : ℕ) (journal : JournalView D) (links : List L) (old new : RunView D L)
         → IsFresh disk journal links old
         → HasMade disk connection allows steps waits old new → AreLinkRuns connection allows links new.events new.ports.links

@@ -20,7 +20,7 @@ one_wait Made = omega arith
 one_wait Idle = omega arith
 one_wait Waited = omega arith
 
--- a count of those that waited, and more
+-- a count of the turns that waited, with those that waited after them, is a count of all
 pub count_more : (count early late total : ℕ) → IsCountOf count early → total ≡ min (count + late) (2 ^ 64 - 1)
     → IsCountOf total (early + late)
 count_more count early late total counts more = grind (arith, counts, more)
@@ -52,7 +52,7 @@ module _ {D L : Type 0} (disk : D → Disk) (connection : L → ℕ) (allows : L
   begun_stays [] waits old new made = ap (λ (r : RunView D L). r.begun) made.1
   begun_stays (s ∷ more) waits old new made = begun_stays more made.1 made.2 new made.5 ∙ made.3.3
 
-  -- steps after others
+  -- steps that were made one after the other were made together
   pub made_join : (front rest : List Step) (early late : ℕ) (old mid new : RunView D L) → HasMade disk connection allows front early old mid
       → HasMade disk connection allows rest late mid new → HasMade disk connection allows (front ++ rest) (early + late) old new
   made_join [] rest early late old mid new first behind =
@@ -76,7 +76,7 @@ module _ {D L : Type 0} (disk : D → Disk) (connection : L → ℕ) (allows : L
   repeated_made Whole step times made waits old new repeated = repeated.1
   repeated_made Memory step times made waits old new repeated = repeated.0.run
 
-  -- and those of a task
+  -- the steps of a task were made
   pub tried_made : (ended : Ended) (task : Task) (made : List Step) (waits : ℕ) (old new : RunView D L)
       → HasTried disk connection allows ended task made waits old new → StepsMade made waits old new
   tried_made ended (task.Client change) made waits old new tried = repeated_made ended (Client change) 1 made waits old new tried
@@ -90,7 +90,7 @@ module _ {D L : Type 0} (disk : D → Disk) (connection : L → ℕ) (allows : L
       (_, 0, new, drained.idle, omega arith, (refl, refl))))
   tried_made Memory task.Drain made waits old new tried = tried.run
 
-  -- and those of tasks
+  -- the steps of tasks were made
   all_made : (tasks : List Task) (made : List Step) (waits : ℕ) (old new : RunView D L)
       → HasDoneAll disk connection allows tasks made waits old new → StepsMade made waits old new
   all_made [] made waits old new done = subst (λ (ss : List Step). StepsMade ss waits old new) (sym done.0) (done.1, done.2)
@@ -101,13 +101,13 @@ module _ {D L : Type 0} (disk : D → Disk) (connection : L → ℕ) (allows : L
       (made_join done.0 done.1 done.2 done.3 old mid new (tried_made Whole task done.0 done.2 old mid done.5)
       (all_made tasks done.1 done.3 mid new done.6)))
 
-  -- of the last task, in which memory may have run out
+  -- the steps up to the last task, in which memory may have run out, were made
   end_made : (ended : Ended) (done : ℕ) (tasks : List Task) (made : List Step) (waits : ℕ) (old new : RunView D L)
       → EndsAfter disk connection allows ended done tasks made waits old new → StepsMade made waits old new
   end_made Whole done tasks made waits old new ends = subst (λ (ss : List Step). StepsMade ss waits old new) (sym ends.1) (ends.2, ends.3)
   end_made Memory done tasks made waits old new ends = tried_made Memory ends.0 made waits old new ends.2
 
-  -- the steps of a schedule that was run
+  -- the steps of a schedule that was run were made
   pub run_made : (tasks : List Task) (ended : Ended) (made : List Step) (waits : ℕ) (old new : RunView D L)
       → HasRun disk connection allows tasks ended made waits old new → StepsMade made waits old new
   run_made tasks ended made waits old new run =
@@ -117,7 +117,7 @@ module _ {D L : Type 0} (disk : D → Disk) (connection : L → ℕ) (allows : L
       (all_made (take run.done tasks) run.whole run.early old run.mid run.tasks_done)
       (end_made ended run.done tasks run.partly run.late run.mid new run.ends)))
 
-  -- one more task after those that are done
+  -- one more task is done after those that are done
   pub done_more : (tasks : List Task) (task : Task) (made more : List Step) (waits waited : ℕ) (old mid new : RunView D L)
       → HasDoneAll disk connection allows tasks made waits old mid → HasTried disk connection allows Whole task more waited mid new
       → HasDoneAll disk connection allows (tasks ++ task ∷ []) (made ++ more) (waits + waited) old new

@@ -44,7 +44,7 @@ module _ {D : Type 0} (disk : D → Disk) (start : Start) (begun : ℕ) where
   abbrev mark : ℕ → ℕ → Mark
   mark t n = record { clock = t; acknowledged = n }
 
-  -- an event after which no more is acknowledged
+  -- an event after which no more is acknowledged adds its moment
   quiet_mark : (master : CoreOnDiskView D) (events : List Stamp) (e : Event) → acked_by (acked start.number events) e
       ≡ acked start.number events
       → Marked master events → Marked master (events ++ stamped (clock_of disk master) (e ∷ []))

@@ -48,7 +48,7 @@ module _ {D : Type 0} where
   rests_own waits (Publishing j written) committed at newest = absurd at
   rests_own waits (Failed d f) committed at newest = absurd at
 
-  -- nor has one that needs a batch
+  -- a flusher that needs a batch has no turns of its own
   pub takes_own : (waits : ℕ) (stage : FlushStage D) (there : Bool) → need_met (need_of stage) there ≡ need.Batch
       → own_turns waits stage None ≡ 0
   takes_own waits (Resting j) there met = newest_own waits j (rests_newest j there met)
@@ -108,7 +108,7 @@ module _ {D : Type 0} where
       first true other both = refl
       first false other both = both
 
-  -- a call of a checkpoint that cannot be paused leaves fewer, however few were left
+  -- a call of a checkpoint that cannot be paused leaves fewer turns, however few were left
   pub advanced_less : (waits most : ℕ) (c : CheckpointingView D) (stage : FlushStage D) → HasAdvanced c stage
       → length (calls_owed stage) + 1 ≤ most → own_turns waits stage None + 1 ≤ most
   advanced_less waits most c (Resting j) has le = omega (arith, newest_own waits j (advanced_newest c j has), le)

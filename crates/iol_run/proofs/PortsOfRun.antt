@@ -28,7 +28,7 @@ use Rattle.iol_run.specs.declared.turn.Turned.{Turned}
 use Rattle.iol_run.specs.declared.step.Step.{Step}
 use Rattle.iol_run.specs.declared.step.Step.TheVariants.{Client, Port, Flush}
 
--- one step more, which is another's, or the port's own
+-- with one more step, a port has made the steps that it had made, and this one if it is its own
 steps_behind : (port : ℕ) (made : List Step) (step : Step) → steps_of port (made ++ step ∷ []) ≡ steps_of port made + steps_of port (step ∷
     [])
 steps_behind port [] step = omega arith
@@ -44,14 +44,14 @@ flusher_own : (q t : ℕ) → PassesOver (λ (es : List Event). own q (stamped t
 flusher_own q t = record { none = refl; acknowledged = λ n. refl; failed = refl }
 
 module _ {L : Type 0} (number : L → ℕ) (steps : L → LinkCall → LinkAnswer → L → Type 0) (first : ℕ) (start : State) where
-  -- how many steps of each port are among these
+  -- the number of steps of a port among these
   abbrev counted : List Step → ℕ → ℕ
   counted made port = steps_of port made
 
   abbrev HaveRuns : List Step → List L → PortsView L → List Stamp → Type 0
   HaveRuns made links ports events = engine.HaveRuns number steps first start (counted made) links ports events
 
-  -- a step that no port makes, and that has no events of a port
+  -- a step that no port makes, and that has no events of a port, keeps the runs of all ports
   others_step : (made : List Step) (step : Step) (links : List L) (ports last : PortsView L) (events more : List Stamp) → last ≡ ports
       → ((port : ℕ) → own port more ≡ []) → ((place : ℕ) → place < length links → steps_of (place + 1) (step ∷ []) ≡ 0)
       → HaveRuns made links ports events → HaveRuns (made ++ step ∷ []) links last (events ++ more)
@@ -123,7 +123,7 @@ module _ {L : Type 0} (number : L → ℕ) (steps : L → LinkCall → LinkAnswe
         (step_runs disk before t links old.master mid.master old.ports mid.ports old.events told
         (core_after first start old.events old.master.core stands) are step made.0 made.3.1)))
 
-    -- for a schedule that was run from a fresh run
+    -- in a schedule that was run from a fresh run, the events of each port are a run of its machine
     pub all_port_runs : (schedule : List Step) (waits : ℕ) (journal : JournalView D) (links : List L) (old new : RunView D L) → first
         ≡ journal.standing.number
         → start ≡ journal.standing.state → length links ≡ length start → IsFresh disk journal links old

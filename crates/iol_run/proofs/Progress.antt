@@ -1,4 +1,4 @@
--- Each turn of the flusher that has not to wait leaves fewer turns.
+-- Each turn of the flusher that does not have to wait leaves fewer turns.
 use Rattle.std.proofs.Common.{◌≡◌, refl, ◌≤◌, ◌⊎◌, inl, inr, ℕ, zero, suc, ◌+◌, ◌-◌, ◌*◌, ◌&&◌, ◌||◌, nat_eq, nat_lt, nat_le, not, Bool}
 use Rattle.std.proofs.Common.{true, false, if◌then◌else◌, is_some, List, [], Ok}
 use Rattle.std.proofs.Common.{◌∷◌, length, Option, Some, None, ap, sym, ◌∙◌, subst, arith, rules, length-drop}
@@ -37,11 +37,11 @@ use Rattle.iol_run.specs.Turns.{need_met, met_by, Acknowledges, Takes, HasCalled
 use Rattle.iol_run.specs.declared.turn.Turned.{Turned}
 use Rattle.iol_run.specs.declared.turn.Turned.TheVariants.{Made, Idle, Waited}
 
--- fewer turns of the batch with the flusher, and the same number after it
+-- fewer turns are left if the batch with the flusher has fewer, and the others stay
 less_own : (own_old own_new old new : ℕ) → own_new + 1 ≤ own_old → new ≡ old → own_new + new ≤ own_old + old - 1
 less_own own_old own_new old new fewer same = omega (arith, fewer, same)
 
--- a batch is taken of those that wait
+-- fewer turns are left if a batch is taken from the waiting commands
 less_behind : (own old new : ℕ) → own + 1 + new ≤ old → own + new ≤ 0 + old - 1
 less_behind own old new fewer = omega (arith, fewer)
 
@@ -85,7 +85,7 @@ module _ {D : Type 0} (layout : Layout) where
   abbrev pub left_of : CoreOnDiskView D → ℕ
   left_of master = turns_left layout master.core master.flusher.stage master.committed
 
-  -- one fewer is left, or none
+  -- one turn fewer is left, or none
   abbrev pub IsFewer : CoreOnDiskView D → CoreOnDiskView D → Type 0
   IsFewer old new = left_of new ≤ left_of old - 1
 
@@ -202,7 +202,7 @@ module _ {D : Type 0} (layout : Layout) where
   takes_fewer old new told Waited none needs is was waits sound = absurd (omega (arith, waits))
 
   module _ (disk : D → Disk) where
-    -- a disk call
+    -- a disk call leaves fewer turns
     called_less : (waits : ℕ) (old new : FlushStage D) → MayAdvance waits old → HasFewCalls old → HasFewCalls new
         → IsDiskStep disk old new (Ok tt) → IsLess waits old new
     called_less waits (Resting j) new (inl none) few_old few_new step =
@@ -234,7 +234,7 @@ module _ {D : Type 0} (layout : Layout) where
     called_less waits (Publishing j written) new may few_old few_new step = absurd step.0
     called_less waits (Failed d f) new may few_old few_new step = absurd step.0
 
-    -- a flusher at rest makes one if no batch may be taken: none waits, or the layout is an older one
+    -- a flusher at rest makes a disk call if no batch may be taken: none waits, or the layout is an older one
     may_advance : (core : CoreView) (stage : FlushStage D) → need_met (need_of stage) (has_batch core) ≡ need.Disk → HasFlight core stage
         → (writes_no_more core.stopped ≡ true → ⊥) → MayAdvance (length core.queue) stage
     may_advance core (Resting j) met flight sound =
@@ -251,7 +251,7 @@ module _ {D : Type 0} (layout : Layout) where
     may_advance core (Publishing j written) met flight sound = tt
     may_advance core (Failed d f) met flight sound = tt
 
-    -- no turn is left if nothing waits
+    -- a disk call that leaves fewer turns of the batch, or after which nothing waits, leaves the master fewer turns
     less_left : (old new : CoreOnDiskView D) → old.committed ≡ None → new.committed ≡ None → new.core ≡ old.core
         → IsLess (length old.core.queue) old.flusher.stage new.flusher.stage → IsFewer old new
     less_left old new none after same (inl less) =
@@ -339,7 +339,7 @@ module _ {D : Type 0} (layout : Layout) where
     serves_fewer need.Stopped old new told turned needs none is was waits before after =
         absurd (before (stopped old.core old.flusher.stage (has_batch old.core) needs was.batch))
 
-    -- a turn that has not to wait leaves fewer, while the disk does not fail
+    -- a turn that does not have to wait leaves fewer turns, while the disk does not fail
     pub turn_fewer : (committed : Option CommittedView) (old new : CoreOnDiskView D) (told : List Event) (turned : Turned) → old.committed
         ≡ committed
         → IsTurn disk committed old new told turned → Served layout old → waits_of turned ≡ 0 → (writes_no_more old.core.stopped ≡ true → ⊥)

@@ -1,4 +1,4 @@
--- What each step keeps of a master: what is in flight is with the flusher, whose journal keeps its layout, and few wait.
+-- What each step keeps of a master: the commands in flight are with the flusher, whose journal keeps its layout, and few commands wait.
 use Rattle.std.proofs.Common.{◌≡◌, refl, ◌≤◌, ℕ, ◌+◌, ◌*◌, ◌||◌, nat_le, not, Bool, true, false, if◌then◌else◌, List, [], ◌∷◌, length}
 use Rattle.std.proofs.Common.{inl, inr, Option, Some, None, is_some, Result, Ok, Err, ap, sym, ◌∙◌, subst, arith, rules}
 use Rattle.std.proofs.Common.{length-append, length-drop}
@@ -57,7 +57,7 @@ pub record IsServed {D : Type 0} (layout : Layout) (core : CoreView) (stage : Fl
   pub few_calls : HasFewCalls stage
   pub few_wait : length core.queue ≤ QUEUE_COMMANDS
 
--- of a master as contracts see it
+-- the same of a master as contracts see it
 abbrev pub Served : {D : Type 0} → Layout → CoreOnDiskView D → Type 0
 Served layout master = IsServed layout master.core master.flusher.stage master.committed
 
@@ -103,7 +103,7 @@ module _ {D : Type 0} (layout : Layout) where
     few_wait = omega (arith, length-append core.queue (command ∷ []), room);
   }
 
-  -- a core with other permits
+  -- it holds of a core with other permits
   permits_batch : (core : CoreView) (permits : List (Option Grant)) (stage : FlushStage D) (committed : Option CommittedView)
       → HasBatch core stage committed
       → HasBatch (with_permits core permits) stage committed
@@ -120,7 +120,7 @@ module _ {D : Type 0} (layout : Layout) where
     few_wait = was.few_wait;
   }
 
-  -- what a call of a port makes of the core
+  -- a call of a port keeps it
   change_served : (old : CoreView) (change : Change) (stage : FlushStage D) (committed : Option CommittedView) → HasRoom old change
       → IsServed layout old stage committed → IsServed layout (changed old change) stage committed
   change_served old (Permits permits) stage committed room was = permits_served old permits stage committed was
@@ -172,7 +172,7 @@ module _ {D : Type 0} (layout : Layout) where
       fewer : length new.core.queue ≤ QUEUE_COMMANDS
       fewer = omega (arith, ap (λ (c : CoreView). length c.queue) is.0, length-drop old.core.flight old.core.queue, was.few_wait)
 
-  -- a batch is taken, as the flusher needs one
+  -- a batch is taken, because the flusher needs one
   taken_served : (old new : CoreView) (s t : FlushStage D) (batch : Batch) (room : ℕ) (there : Bool)
       → need_met (need_of s) there ≡ need.Batch → IsTaken old room new batch → HasTaken s batch t
       → IsServed layout old s None → IsServed layout new t None
@@ -195,7 +195,7 @@ module _ {D : Type 0} (layout : Layout) where
   same_served : (old new : CoreOnDiskView D) → new ≡ old → Served layout old → Served layout new
   same_served old new same was = subst (λ (m : CoreOnDiskView D). Served layout m) (sym same) was
 
-  -- if no batch is to be acknowledged before and after
+  -- it is kept if no batch is to be acknowledged before and after
   none_served : (old new : CoreOnDiskView D) → old.committed ≡ None → new.committed ≡ None
       → (IsServed layout old.core old.flusher.stage None → IsServed layout new.core new.flusher.stage None) → Served layout old
       → Served layout new
@@ -212,7 +212,7 @@ module _ {D : Type 0} (layout : Layout) where
   takes_served old new told Idle none met is was = same_served old new is.1 was
   takes_served old new told Waited none met is was = same_served old new is.1 was
 
-  -- what a disk call leaves has the layout, and a batch is written in the one that is written
+  -- after a disk call the journal has the layout, and a batch is written in the newest one
   abbrev KeepsLayout : FlushStage D → Type 0
   KeepsLayout stage = HasLayout layout stage × IsNewest stage None
 
@@ -344,7 +344,7 @@ module _ {D : Type 0} (layout : Layout) where
         (subst (λ (c : Option CommittedView). IsServed layout old.core old.flusher.stage c) there was)
     turn_served None old new told turned there is was = serves_served (met_by old) old new told turned there refl is was
 
-    -- a step of a port
+    -- a step of a port keeps it
     port_served : {L : Type 0} (number : L → ℕ) (steps : L → LinkCall → LinkAnswer → L → Type 0) (there : Bool) (port : ℕ)
         (old new : CoreOnDiskView D)
         (ports last : PortsView L) (told : List Event) → StepsIf number steps there port old new ports last told → Served layout old

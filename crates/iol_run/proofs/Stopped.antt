@@ -38,15 +38,15 @@ use Rattle.iol_run.specs.declared.turn.Turned.TheVariants.{Made, Idle, Waited}
 use Rattle.iol_run.specs.declared.step.Step.{Step}
 use Rattle.iol_run.specs.declared.step.Step.TheVariants.{Client, Port, Flush}
 
--- what a core reports of failures, from one to the next: it accepts only if it runs, a failure of the disk that it knew is
--- known still, and one that is reported is known
+-- a core heeds failures in these events: it accepts only if it runs, it still knows a failure of the disk that it knew, and it knows one
+-- that is reported
 record Heeds (old new : CoreView) (told : List Stamp) : Type 0 where
   pub accepts : writes_no_more old.stopped ≡ true → accepted told ≡ []
   pub stays : writes_no_more old.stopped ≡ true → writes_no_more new.stopped ≡ true
   pub known : HasFailure told → writes_no_more new.stopped ≡ true
   pub none : NoneOnceFailed told
 
--- events that report no failure
+-- if no failure is reported, nothing is accepted after one
 none_failed : (told : List Stamp) → (HasFailure told → ⊥) → NoneOnceFailed told
 none_failed [] sound = tt
 none_failed (e ∷ told) sound = ((λ failed. absurd (sound (inl failed))), none_failed told (λ failed. sound (inr failed)))
@@ -69,7 +69,7 @@ taken_runs true queue checked none = search rules
 taken_runs false queue checked none = refl
 
 module _ (t : ℕ) where
-  -- one event that is no failure
+  -- a core heeds failures in one event that is no failure
   one_heeds : (old new : CoreView) (e : Event) → new.stopped ≡ old.stopped → (IsFailure e → ⊥)
       → (writes_no_more old.stopped ≡ true → accepted (stamped t (e ∷ [])) ≡ [])
       → Heeds old new (stamped t (e ∷ []))
@@ -96,7 +96,7 @@ module _ (t : ℕ) where
       (λ failed. absurd (runs_still old (taken_runs (is_stopped old) (queue_fault old) (check (live old) command) is.0) failed))
   submit_heeds old new command (Err f) is = one_heeds old new _ (ap (λ (c : CoreView). c.stopped) is.1) (λ never. never) (λ failed. refl)
 
-  -- a call of a port
+  -- a core heeds failures in a call of a port
   change_heeds : (old : CoreView) (change : Change) (told : List Event) → HasRoom old change → Tells old change told
       → Heeds old (changed old change) (stamped t told)
   change_heeds old (Permits permits) told room tells = record {
@@ -110,11 +110,11 @@ module _ (t : ℕ) where
       (one_heeds old (changed old (Waits command permits)) (Accepted _ command) refl (λ never. never) (λ failed.
       absurd (runs_still old room.0 failed)))
 
-  -- a status after it
+  -- a core heeds failures in a status
   quiet_heeds : (core : CoreView) (told : List Event) → AreQuiet told → Heeds core core (stamped t told)
   quiet_heeds core told quiet = change_heeds core (Permits core.permits) told tt quiet
 
--- more after what was reported
+-- a core heeds failures in events, and in more after them
 more_heeds : (old mid new : CoreView) (told more : List Stamp) → Heeds old mid told → Heeds mid new more → Heeds old new (told ++ more)
 more_heeds old mid new told more one two = record {
   accepts = λ failed. accepted-append told more
@@ -202,12 +202,12 @@ module _ (t : ℕ) {D : Type 0} where
           port_heeds (nat_le port (length ports.links)) port old new ports last told is.1
       step_heeds Flush old new ports last told turned is = turn_heeds old.committed old new told turned is.1
 
--- a core that stays
+-- a core that stays as it is heeds failures
 stays_heeding : (old new : CoreView) → new ≡ old → Heeds old new []
 stays_heeding old new same = silent_heeds 0 old new [] refl (ap (λ (c : CoreView). c.stopped) same)
 
 module _ {D L : Type 0} (disk : D → Disk) (connection : L → ℕ) (allows : L → LinkCall → LinkAnswer → L → Type 0) where
-  -- for steps that were made from a fresh run
+  -- in steps that were made from a fresh run nothing is accepted once a failure is reported
   pub none_once_failed : (steps : List Step) (waits : ℕ) (journal : JournalView D) (links : List L) (old new : RunView D L)
       → IsFresh disk journal links old
       → HasMade disk connection allows steps waits old new → NoneOnceFailed new.events

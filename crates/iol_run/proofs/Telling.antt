@@ -71,7 +71,7 @@ module _ {D : Type 0} (start : Start) (t : ℕ) where
           ap (λ (n : ℕ). start.number + n) (was.count ∙ ap length was.accepted_is)
           ∙ count_is start old.core old.flusher old.committed step
 
-  -- an event that accepts and acknowledges nothing, if the master has the same commands and number
+  -- events that accept and acknowledge nothing say what happened, if the master has the same commands and number
   quiet_told : (old new : CoreOnDiskView D) (events : List Stamp) (more : List Stamp) → accepted more ≡ [] → numbers more ≡ []
       → acked (acked start.number events) more ≡ new.core.number → accepted_in new ≡ accepted_in old → IsTold start old events
       → IsTold start new (events ++ more)
@@ -94,7 +94,7 @@ module _ {D : Type 0} (start : Start) (t : ℕ) where
       → IsTold start old events → IsTold start new (events ++ [])
   silent_told old new events number same was = quiet_told old new events [] refl refl (was.acked_is ∙ sym number) same was
 
-  -- a client's command
+  -- after a client's command the events say what happened
   submit_is_told : (old new : CoreOnDiskView D) (command : CommandValue) (events : List Stamp) (answer : Result ℕ SubmitFault)
       → IsInStep start old.core old.flusher old.committed → IsSubmit old.core command new.core answer → new.flusher ≡ old.flusher
       → new.committed ≡ old.committed → IsTold start old events → IsTold start new (events ++ stamped t (submit_told command answer))
@@ -110,7 +110,7 @@ module _ {D : Type 0} (start : Start) (t : ℕ) where
       ∙ ap (λ (c : CoreView). old.flusher.published ++ waiting_of old.committed c) is.1))
       was
 
-  -- if the flusher, the published batch and what waits stay
+  -- the accepted commands stay if the flusher, the published batch and the waiting commands stay
   waiting_same : (old new : CoreOnDiskView D) → new.flusher ≡ old.flusher → new.committed ≡ old.committed
       → waiting_of old.committed new.core ≡ waiting_of old.committed old.core → accepted_in new ≡ accepted_in old
   waiting_same old new flusher committed waits =
@@ -118,7 +118,7 @@ module _ {D : Type 0} (start : Start) (t : ℕ) where
       ∙ (ap (λ (c : Option CommittedView). old.flusher.published ++ waiting_of c new.core) committed
       ∙ ap (λ (cs : List CommandValue). old.flusher.published ++ cs) waits)
 
-  -- what a call of a port makes of the core
+  -- after a call of a port the events say what happened
   becomes_told : (P : Type 0) (old new : CoreOnDiskView D) (events : List Stamp) (told : List Event)
       → IsInStep start old.core old.flusher old.committed
       → Becomes P old.core new.core told → new.flusher ≡ old.flusher → new.committed ≡ old.committed → IsTold start old events
@@ -138,7 +138,7 @@ module _ {D : Type 0} (start : Start) (t : ℕ) where
           ∙ (waits_with old.committed (queued old.core command) permits
           ∙ waits_more start old.core old.flusher old.committed command step)) flusher committed was)
 
-  -- a step of a port: its call, and then its status
+  -- after a step of a port, its call and then its status, the events say what happened
   port_told : {L : Type 0} (number : L → ℕ) (steps : L → LinkCall → LinkAnswer → L → Type 0) (there : Bool) (port : ℕ)
       (old new : CoreOnDiskView D)
       (ports last : PortsView L) (events : List Stamp) (told : List Event) → IsInStep start old.core old.flusher old.committed
@@ -155,7 +155,7 @@ module _ {D : Type 0} (start : Start) (t : ℕ) where
       subst (λ (es : List Event). IsTold start new (events ++ stamped t es)) (sym is.2)
       (silent_told old new events (ap (λ (m : CoreOnDiskView D). m.core.number) is.0) (ap accepted_in is.0) was)
 
-  -- a batch that is acknowledged
+  -- a batch is acknowledged
   acknowledged_told : (old new : CoreOnDiskView D) (committed : CommittedView) (events : List Stamp) (told : List Event) → old.committed
       ≡ Some committed
       → IsInFlight old.core committed.commands → Acknowledges old new told → IsTold start old events
@@ -170,7 +170,7 @@ module _ {D : Type 0} (start : Start) (t : ℕ) where
       ∙ ap (λ (c : Option CommittedView). old.flusher.published ++ waiting_of c old.core) (sym there)))))
       was)
 
-  -- if no batch is to be acknowledged, and the queue and the published list stay
+  -- the accepted commands stay if no batch is to be acknowledged, and the queue and the published list stay
   stays_told : (old new : CoreOnDiskView D) → old.committed ≡ None → new.committed ≡ None → new.flusher.published ≡ old.flusher.published
       → new.core.queue ≡ old.core.queue → accepted_in new ≡ accepted_in old
   stays_told old new before after published queue =

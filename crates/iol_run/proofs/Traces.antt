@@ -33,7 +33,7 @@ use Rattle.iol_run.specs.declared.step.Step.{Step}
 use Rattle.iol_run.specs.declared.task.Task.{Task}
 
 module _ {D L : Type 0} (disk : D → Disk) (number : L → ℕ) (steps : L → LinkCall → LinkAnswer → L → Type 0) where
-  -- what a run from a fresh one reports
+  -- the events of a run from a fresh one say what happened in it
   pub tells_run : (journal : JournalView D) (links : List L) (tasks : List Task) (made : List Step) (trace : Trace D L)
       → length links ≡ length journal.standing.state → IsRunFrom disk number steps journal links tasks made trace
       → TellsRun disk number steps journal links made trace

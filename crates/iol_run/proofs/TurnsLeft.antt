@@ -1,4 +1,4 @@
--- How many turns of the flusher are left until all that waits is acknowledged.
+-- The number of turns of the flusher that are left until all waiting commands are acknowledged.
 use Rattle.std.proofs.Common.{◌≡◌, ◌≤◌, ℕ, ◌+◌, ◌-◌, ◌*◌, nat_lt, Bool, true}
 use Rattle.std.proofs.Common.{false, if◌then◌else◌, List, length, length-append, Option, Some, None, ap, sym, ◌∙◌, subst, arith}
 use Rattle.std.proofs.Math.Nat.{mul-le-mul_left, mul-add, add-mul, le-mul_of_pos_right}
@@ -121,7 +121,7 @@ written_within calls most n some le = omega (arith, le, within_each most n some)
 few_within : (turns most n : ℕ) → 1 ≤ n → turns ≤ 2 → turns ≤ (24 + most) * n
 few_within turns most n some le = omega (arith, le, within_each most n some)
 
--- the turns of a batch, and of the commands after it
+-- the turns of a batch, and of the commands after it, are at most those of all waiting commands
 pub fewer_behind : (each waits flies own : ℕ) → own ≤ each * flies → flies ≤ waits → own + each * (waits - flies) ≤ each * waits
 fewer_behind each waits flies own most within =
     subst (λ (n : ℕ). own + each * (waits - flies) ≤ n) (sym parted) (add_within own (each * flies) (each * (waits - flies)) most)
@@ -132,7 +132,7 @@ fewer_behind each waits flies own most within =
         parts : (n m : ℕ) → m ≤ n → n ≡ m + (n - m)
         parts n m le = omega (arith, le)
 
--- a batch that was given, with its acknowledgement, needs a turn less than one that is still to be taken
+-- a batch that was given, with its acknowledgement, needs one turn less than one that is still to be taken
 pub given_turns : (layout : Layout) (commands : List CommandValue) (begun : Option BegunView) (full : Bool) → 1 ≤ length commands
     → given_calls layout commands begun full + 1 + 1 ≤ batch_turns layout * length commands
 given_turns layout commands begun full some =

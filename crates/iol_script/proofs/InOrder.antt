@@ -1,4 +1,4 @@
--- What values give, one after another.
+-- The results of values, one after another.
 use Rattle.std.proofs.Common.{◌≡◌, List, [], ◌∷◌, ◌++◌, map, Option, Some, None, option_map, refl, ap, append_assoc}
 
 -- the result of the next value comes after those of the values before it, and before those of the remaining ones

@@ -12,27 +12,27 @@ use Rattle.iol_script.specs.declared.live_script.LiveScript.{LiveScript}
 use Rattle.iol_script.specs.declared.step.Step.{Step}
 use Rattle.iol_script.specs.declared.step.Step.TheVariants.{Ask, Port, Flush, Drain}
 
--- what such a script says: the devices, and what clients ask for (format, Scripts)
+-- what such a script says: the devices, and the changes that clients request (format, Scripts)
 pub record SaidLive : Type 0 where
   pub devices : List SaidDevice
   pub changes : List Change
 
--- what a step asks for, if it is a client's; steps of ports and of the flusher are none (format, Scripts)
+-- the change that a step requests, if the step is a client's; steps of ports and of the flusher request none (format, Scripts)
 abbrev pub change_by : Step → Option Change
 change_by (Ask change) = Some change
 change_by (Port port times) = None
 change_by (Flush times) = None
 change_by Drain = None
 
--- what the table of a step asks for, if it is a client's step (format, Scripts)
+-- the change that the table of a step requests, if the step is a client's (format, Scripts)
 abbrev pub change_in : Members → Option Change
 change_in table = option_and_then change_by (step_in table)
 
--- what the value of a step asks for, if it is a client's step (format, Scripts)
+-- the change that the value of a step requests, if the step is a client's (format, Scripts)
 abbrev pub change_of : Data → Option Change
 change_of value = option_and_then change_by (step_of value)
 
--- what the values of steps ask for, if each is a client's step (format, Scripts)
+-- the changes that the values of steps request, if each step is a client's (format, Scripts)
 abbrev pub changes_of : Items → Option (List Change)
 changes_of no_items = Some []
 changes_of (item value values) =

@@ -80,8 +80,8 @@ abbrev pub is_port_of : ℤ → ℕ → Bool
 is_port_of (pos ports) port = nat_le port ports
 is_port_of (negsuc n) port = false
 
--- a step of a port is at one of the first `ports`; every other step fits, as a command of another port is refused when it
--- comes (format, Scripts)
+-- a step of a port is at one of the first `ports`; every other step fits, because a command for another port is refused when it comes
+-- (format, Scripts)
 abbrev pub step_fits : ℤ → Step → Bool
 step_fits ports (Port port times) = is_port_of ports port
 step_fits ports (Ask change) = true

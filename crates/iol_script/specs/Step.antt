@@ -84,7 +84,7 @@ change_of_kind kind table =
     else if bytes_eq kind (codes "rollback") then rollback_in table
     else None
 
--- another step, in a table of this kind (format, Scripts)
+-- a step that is not a client's, in a table of this kind (format, Scripts)
 abbrev pub port_step_in : Members → Option Step
 port_step_in table =
     if has_only_keys port_keys table then
@@ -97,7 +97,7 @@ flush_in table = if has_only_keys flush_keys table then option_map Flush (times_
 abbrev pub drain_in : Members → Option Step
 drain_in table = if has_only_keys drain_keys table then Some Drain else None
 
--- the step in a table, by its kind; what no other step is, a client requests (format, Scripts)
+-- the step in a table, by its kind; any other kind is that of a change that a client requests (format, Scripts)
 abbrev pub step_of_kind : List ℕ → Members → Option Step
 step_of_kind kind table =
     if bytes_eq kind (codes "port") then port_step_in table

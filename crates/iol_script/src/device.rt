@@ -16,7 +16,7 @@ pub const USUAL_REVISION: u8 = 17;
 /// A simulated device. The devices of one port are connected one after another, in the order of the script.
 #[derive(Drop)]
 pub struct Device {
-    /// The port that it is at.
+    /// The port of the device.
     pub port: PortId,
     /// Its VendorID.
     pub vendor: u16,

@@ -52,7 +52,7 @@ pub fn identities()
     ensures missing { map vendor_in (said_at (codes "device") (pos 1) ∷ said_at (codes "Vendor") (pos 1) ∷ []) ≡ None ∷ None ∷ [] }
 {}
 
-/// What a stop keeps is one of four words.
+/// A stop keeps what one of four words says.
 pub fn words_of_a_stop()
     ensures words { map keep_of (codes "old" ∷ codes "new" ∷ codes "zero" ∷ codes "pattern" ∷ [])
         ≡ Some pick.Old ∷ Some pick.New ∷ Some pick.Zero ∷ Some pick.Pattern ∷ [] }

@@ -19,7 +19,7 @@ pub struct FailingCall {
     pub number: u32,
 }
 
-// The failing call at the key `fail`: `Some(None)` if the key is missing, `None` if the value is not a call.
+// Returns the failing call at the key `fail`: `Some(None)` if the key is missing, `None` if the value is not a call.
 pub(crate) fn fail_in(table: &Table) -> Option<Option<FailingCall>>
     ensures { result ≡ fail_in (table_view table.now) }
 {
@@ -29,7 +29,7 @@ pub(crate) fn fail_in(table: &Table) -> Option<Option<FailingCall>>
     }
 }
 
-// The call that a text names: its kind, a space and its number.
+// Returns the call that a text names: its kind, a space and its number.
 fn call_in(text: &str) -> Option<FailingCall>
     ensures { result ≡ call_in text.now }
 {
@@ -51,7 +51,7 @@ fn kind_of(word: &str) -> Option<DiskFault>
     }
 }
 
-// The number of 1 to 1,000,000 that digits write, without sign or leading zero.
+// Returns the number of 1 to 1,000,000 that digits write, without sign or leading zero.
 fn number_in(digits: &str) -> Option<u32>
     ensures { result ≡ number_in digits.now }
 {
@@ -65,7 +65,7 @@ fn number_in(digits: &str) -> Option<u32>
     Some(number)
 }
 
-// Whether a text begins with a digit of 1 to 9.
+// Returns whether a text begins with a digit of 1 to 9.
 fn has_first_digit(text: &str) -> bool
     ensures { result ≡ has_first_digit text.now }
 {

@@ -13,7 +13,7 @@ use iol_types::Change;
 use std::alloc::Global;
 use toml::{Table, Value};
 
-/// A script for a master that runs in threads: the devices at its ports, and what its clients ask for.
+/// A script for a master that runs in threads: the devices at its ports, and the changes that its clients request.
 ///
 /// The image has the number of ports, and each port and the flusher make their steps by themselves. So all steps of the
 /// script are those of clients, and `ports`, `slots` and `fail` are not read.
@@ -21,7 +21,7 @@ use toml::{Table, Value};
 pub struct LiveScript {
     /// The simulated devices, in order.
     pub devices: Vec<Device>,
-    /// What is asked for, in order.
+    /// The requested changes, in order.
     pub changes: Vec<Change>,
 }
 
@@ -60,7 +60,7 @@ impl LiveScript {
     }
 }
 
-// The changes that the values of steps ask for, in order.
+// Returns the changes that the values of steps request, in order.
 //
 // # Errors
 // `NotValid` if a value is not a step of a client; `Memory` if it is out of memory.
@@ -76,14 +76,14 @@ fn read_changes(alloc: Global, values: &[Value]) -> Result<Vec<Change>, ScriptFa
     Ok(changes)
 }
 
-// The change that the value of a step asks for, if the step is a client's.
+// Returns the change that the value of a step requests, if the step is a client's.
 fn read_change(value: &Value) -> Option<Change>
     ensures { result ≡ change_of (view value.now) }
 {
     change_by(Step::read(value)?)
 }
 
-// The change that a step asks for, if a client may make it.
+// Returns the change that a step requests, if the step is a client's.
 pub(crate) fn change_by(step: Step) -> Option<Change>
     ensures { result ≡ change_by step }
 {

@@ -38,7 +38,7 @@ impl Parameter {
     }
 }
 
-// The key in a value: an array of an Index and a Subindex.
+// Returns the key in a value: an array of an Index and a Subindex.
 fn key_of(value: &Value) -> Option<Key>
     ensures { result ≡ key_of (view value.now) }
 {
@@ -48,7 +48,7 @@ fn key_of(value: &Value) -> Option<Key>
     }
 }
 
-// The key of an Index and a Subindex, if it is not reserved.
+// Returns the key of an Index and a Subindex, if it is not reserved.
 fn key_of_pair(index: &Value, subindex: &Value) -> Option<Key>
     ensures { result ≡ key_of_pair (view index.now) (view subindex.now) }
 {
@@ -59,7 +59,7 @@ fn key_of_pair(index: &Value, subindex: &Value) -> Option<Key>
     if key.is_reserved() { None } else { Some(key) }
 }
 
-// The octets in a value, which must be a text.
+// Returns the octets in a value, which must be a text.
 fn octets_of(alloc: Global, value: &Value) -> Result<Vec<u8>, ScriptFault>
     ensures octets { IfOk result (λ octets. octets_of (view value.now) ≡ Some octets.items) }
     ensures not_valid { result ≡ Err ScriptFault.NotValid → octets_of (view value.now) ≡ None }
@@ -68,7 +68,7 @@ fn octets_of(alloc: Global, value: &Value) -> Result<Vec<u8>, ScriptFault>
     octets_in(alloc, text)
 }
 
-// The octets that a text writes: two hexadecimal digits of either case for each, and nothing else.
+// Returns the octets that a text writes: two hexadecimal digits of either case for each, and nothing else.
 fn octets_in(alloc: Global, text: &str) -> Result<Vec<u8>, ScriptFault>
     ensures octets { IfOk result (λ octets. octets_in text.now ≡ Some octets.items) }
     ensures not_valid { result ≡ Err ScriptFault.NotValid → octets_in text.now ≡ None }

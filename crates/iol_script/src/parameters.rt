@@ -59,7 +59,7 @@ fn read_parameters(
     Ok(parameters)
 }
 
-// Whether all keys are distinct.
+// Returns whether all keys are distinct.
 fn are_distinct(parameters: &[Parameter]) -> bool
     ensures { result ≡ are_distinct (keys_of (entries_of parameters.now)) }
 {

@@ -111,9 +111,9 @@ impl Script {
         })
     }
 
-    /// Whether each device, and each step of a port itself, is at one of the script's `ports`. A run requires this, and
-    /// checks it after the text and before the geometry. A command of another port is no fault, but is refused when it
-    /// comes.
+    /// Returns whether each device, and each step of a port itself, is at one of the script's `ports`. A run requires this, and
+    /// checks it after the text and before the geometry. A command for another port is no fault of the script: it is refused
+    /// when it comes.
     pub fn fits_ports(&self) -> bool
         ensures { result ≡ fits_ports (said_of self.now) }
     {

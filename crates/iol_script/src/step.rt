@@ -150,7 +150,8 @@ fn config_in(table: &Table) -> Option<PortConfig>
     })
 }
 
-/// The label of a port at the key `label`: a text of 0 to 32 octets from 20 to 7E other than 22. It is empty if the key is missing.
+/// Returns the label of a port at the key `label`: a text of 0 to 32 octets from 20 to 7E other than 22. It is empty if the key
+/// is missing.
 pub fn label_in(table: &Table) -> Option<Label>
     ensures { result ≡ label_in (table_view table.now) }
 {
@@ -160,14 +161,14 @@ pub fn label_in(table: &Table) -> Option<Label>
     }
 }
 
-/// The mode of a port at the key `mode`: a whole number of 0 to 4.
+/// Returns the mode of a port at the key `mode`: a whole number of 0 to 4.
 pub fn mode_in(table: &Table) -> Option<PortMode>
     ensures { result ≡ mode_in (table_view table.now) }
 {
     PortMode::from_octet(octet_at(table, "mode")?)
 }
 
-/// The validation of a port at the key `validation`: a whole number of 0 to 4.
+/// Returns the validation of a port at the key `validation`: a whole number of 0 to 4.
 pub fn validation_in(table: &Table) -> Option<Validation>
     ensures { result ≡ validation_in (table_view table.now) }
 {

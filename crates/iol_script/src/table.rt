@@ -6,7 +6,7 @@ ghost use Rattle.iol_script.specs.Table.{has_only_keys, is_among, integer_at, te
 
 use toml::{Table, Value};
 
-/// Whether the table has only these keys.
+/// Returns whether the table has only these keys.
 pub fn has_only_keys(table: &Table, keys: &[&str]) -> bool
     ensures { result ≡ has_only_keys (map (λ key. key.now) keys.now) (table_view table.now) }
 {
@@ -24,28 +24,28 @@ fn is_among(key: &str, keys: &[&str]) -> bool
     keys.contains(&key)
 }
 
-/// The value at a key, if there is one.
+/// Returns the value at a key, if there is one.
 pub fn value_at<'a>(table: &'a Table, key: &str) -> Option<&'a Value>
     ensures { option_map (λ value. view value.now) result ≡ get_member key.now (table_view table.now) }
 {
     table.get(key)
 }
 
-/// The text at a key, if there is one.
+/// Returns the text at a key, if there is one.
 pub fn text_at<'a>(table: &'a Table, key: &str) -> Option<&'a str>
     ensures { option_map (λ text. text.now) result ≡ text_at key.now (table_view table.now) }
 {
     value_at(table, key)?.as_str()
 }
 
-// The whole number at a key, if there is one. A float or a boolean does not count as one.
+// Returns the whole number at a key, if there is one. A float or a boolean does not count as one.
 pub(crate) fn integer_at(table: &Table, key: &str) -> Option<i64>
     ensures { result ≡ integer_at key.now (table_view table.now) }
 {
     value_at(table, key)?.as_integer()
 }
 
-// The values of the array at a key: empty if the key is missing, `None` if the value is not an array.
+// Returns the values of the array at a key: empty if the key is missing, `None` if the value is not an array.
 pub(crate) fn values_at<'a>(table: &'a Table, key: &str) -> Option<&'a [Value]>
     ensures { option_map (λ values. items_view values.now) result ≡ values_at key.now (table_view table.now) }
 {
@@ -55,7 +55,7 @@ pub(crate) fn values_at<'a>(table: &'a Table, key: &str) -> Option<&'a [Value]>
     }
 }
 
-// The boolean at a key, or `absent` if the key is missing; `None` if the value is not a boolean.
+// Returns the boolean at a key, or `absent` if the key is missing; `None` if the value is not a boolean.
 pub(crate) fn truth_or(table: &Table, key: &str, absent: bool) -> Option<bool>
     ensures { result ≡ truth_or absent key.now (table_view table.now) }
 {

@@ -45,7 +45,7 @@ TellsOutcome disk (ending.Damaged sector) = Shows disk (λ image. standing_in di
 abbrev pub IsMapCause : Fault → Type 0
 IsMapCause why = (why ≡ fault.Disk) ⊎ (why ≡ fault.Memory)
 
--- the record that was read of a port, or `None` if its sectors hold none, or else why it was not read (format, Maps)
+-- the record that was read of a port, or `None` if its sectors hold none, or otherwise why it was not read (format, Maps)
 abbrev pub record_in : {A : Type 0} → Result A RecoverCause → Result (Option A) RecoverCause
 record_in (Ok port) = Ok (Some port)
 record_in (Err (reading.Damaged sector)) = Ok None

@@ -18,8 +18,8 @@ use std::io::Write;
 use std::os::unix::fs::FileExt;
 use std::rt::Files;
 
-/// Recovers the state on the image file at `path`, and returns the exit status: 0 once the state is written to `out` as one
-/// JSON object, and else 1. If the recovery fails, a line on `err` says why, and nothing is written to `out`. If writing to
+/// Recovers the state on the image file at `path`, and returns the exit status: 0 if the state is written to `out` as one JSON
+/// object, and 1 otherwise. If the recovery fails, a line on `err` says why, and nothing is written to `out`. If writing to
 /// `out` fails, nothing is written to `err`.
 pub fn json_image<
     F: FileExt + OpenFile + LockFile + Drop,
@@ -38,7 +38,7 @@ pub fn json_image<
     }
 }
 
-// What is printed for the state on an image file.
+// Returns the text that is printed for the state on an image file.
 fn text_of_image<'a, F: FileExt + OpenFile + LockFile + Drop, R: Files<File = F> + AllocGlobal>(
     rt: &R,
     path: &'a str,
@@ -49,7 +49,10 @@ fn text_of_image<'a, F: FileExt + OpenFile + LockFile + Drop, R: Files<File = F>
     json_of_disk(rt.alloc(), opened(rt, path)?)
 }
 
-/// What is printed for the state on a disk, or why nothing is: a fault of `show_disk`, or `Memory` for the text.
+/// Returns the text that is printed for the state on a disk.
+///
+/// # Errors
+/// Those of `iol_commands::show_disk`, then `Memory` for the text.
 pub fn json_of_disk<D: SectorDisk + Drop>(alloc: Global, disk: D) -> Result<String, Fault<'static>>
     ensures text { IfOk result (λ text. TellsStateAsJson (D.disk disk) (string_bytes text)) }
     ensures cause { IfErr result (λ fault. Shows (D.disk disk) (λ image. TellsWhy (standing_in (D.disk disk).sectors image) fault)) }
@@ -62,7 +65,7 @@ pub fn json_of_disk<D: SectorDisk + Drop>(alloc: Global, disk: D) -> Result<Stri
     }
 }
 
-// What is printed for a state that was recovered.
+// Returns the text that is printed for a recovered state.
 fn json_of(alloc: Global, recovered: &Recovered) -> Result<String, Fault<'static>>
     ensures text { IfOk result (λ text. ReadsAs recovered.now.number recovered.now.state (string_bytes text)) }
     ensures cause { IfErr result (λ fault. fault ≡ Fault.Memory) }

@@ -14,8 +14,8 @@ use std::io::Write;
 use std::os::unix::fs::FileExt;
 use std::rt::Files;
 
-/// Writes a map of the image file at `path` to `out` (docs/FORMATS.md, "Maps"), and returns the exit status: 0 once that is
-/// done, whatever the file holds, and else 1. Nothing is written to the file.
+/// Writes a map of the image file at `path` to `out` (docs/FORMATS.md, "Maps"), and returns the exit status: 0 if that is done,
+/// whatever the file holds, and 1 otherwise. Nothing is written to the file.
 ///
 /// If the file cannot be opened, is in use or cannot be read, or memory runs out, a line on `err` says so, and nothing is
 /// written to `out`. If writing to `out` fails, nothing is written to `err`.
@@ -37,7 +37,7 @@ pub fn map_image<
 }
 
 /// Draws the map of the image file at `path` in SVG into the file at `picture`, which is made if there is none. Writes a line
-/// to `out`, and returns the exit status: 0 once that is done, and else 1. Nothing is written to the image file, even if
+/// to `out`, and returns the exit status: 0 if that is done, and 1 otherwise. Nothing is written to the image file, even if
 /// `picture` is another name of it.
 ///
 /// The faults are those of [`map_image`], and that the picture cannot be opened, made or written, or is in use.
@@ -58,7 +58,7 @@ pub fn draw_map<
     }
 }
 
-// What is printed for a map of the image file at this path.
+// Returns the text that is printed for a map of the image file at this path.
 fn text_of_map<'a, F: FileExt + OpenFile + LockFile + Drop, R: Files<File = F> + AllocGlobal>(
     rt: &R,
     path: &'a str,
@@ -69,7 +69,10 @@ fn text_of_map<'a, F: FileExt + OpenFile + LockFile + Drop, R: Files<File = F> +
     map_of_disk(rt.alloc(), opened(rt, path)?)
 }
 
-/// The map of a disk as text, or why there is none: `Disk` or `Memory`.
+/// Returns the map of a disk as text.
+///
+/// # Errors
+/// `Disk` if a disk call fails, or `Memory` if memory runs out.
 pub fn map_of_disk<D: SectorDisk + Drop>(alloc: Global, disk: D) -> Result<String, Fault<'static>>
     ensures text { IfOk result (λ text. TellsMap (D.disk disk) (string_bytes text)) }
     // Whatever is on the disk, it has a map.
@@ -94,7 +97,7 @@ fn draw<'a, F: FileExt + OpenFile + LockFile + Drop, R: Files<File = F> + AllocG
     draw_disk(rt, opened(rt, path)?, name_of(path), picture)
 }
 
-// The last part of a path.
+// Returns the last part of a path.
 fn name_of(path: &str) -> &str {
     match path.rsplit_once('/') {
         Some((_, name)) => name,
@@ -145,7 +148,7 @@ fn write_drawing<'a, F: FileExt + OpenFile + LockFile + Drop, R: Files<File = F>
     write_picture(rt, picture, text.as_str())
 }
 
-// What is printed for a picture.
+// Returns the text that is printed for a picture.
 fn mapped(alloc: Global, sectors: usize) -> Result<String, AllocError>
     ensures { IfOk result (λ text. string_bytes text ≡ mapped_text sectors) }
 {

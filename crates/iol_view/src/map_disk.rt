@@ -56,7 +56,7 @@ pub(crate) fn map_disk<D: SectorDisk>(alloc: Global, disk: D) -> Mapped<D>
     }
 }
 
-// Why a part of a disk was not read. Damage is reported in the line of the part, so the only other cause is memory.
+// Returns why a part of a disk was not read. Damage is reported in the line of the part, so the only other cause is memory.
 fn unread(cause: RecoverCause) -> Fault<'static>
     ensures cause { IsMapCause result }
     ensures status { status_of result ≡ 1 }

@@ -38,7 +38,7 @@ impl fmt::Display for Drawing<'_> {
     }
 }
 
-// The title: the name of the file, and the geometry that the first line says, if it says one.
+// Writes the title: the name of the file, and the geometry that the first line reports, if it reports one.
 fn write_title<W: fmt::Write>(f: &mut fmt::Formatter<W>, drawing: &Drawing<'_>) -> fmt::Result {
     f.write_str("<text x='10' y='20' font-weight='bold'>")?;
     write_escaped(f, drawing.name)?;
@@ -48,12 +48,12 @@ fn write_title<W: fmt::Write>(f: &mut fmt::Formatter<W>, drawing: &Drawing<'_>) 
     f.write_str("</text>\n")
 }
 
-// The geometry that the first line says, after its first word.
+// Returns the geometry that the first line reports: its text after its first word.
 fn said_geometry(lines: &[Line]) -> Option<&str> {
     lines.first()?.text.as_str().strip_prefix("geometry, ")
 }
 
-// The width of a picture of these lines.
+// Returns the width of a picture of these lines.
 fn width(lines: &[Line]) -> usize {
     let mut longest = 0;
     for line in lines {
@@ -63,7 +63,7 @@ fn width(lines: &[Line]) -> usize {
     TEXT_LEFT.saturating_add(LETTER.saturating_mul(letters))
 }
 
-// The height of a picture of these lines.
+// Returns the height of a picture of these lines.
 fn height(lines: &[Line]) -> usize {
     LINE_STEP.saturating_mul(lines.len().saturating_add(OTHER_LINES))
 }

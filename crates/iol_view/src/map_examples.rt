@@ -11,7 +11,7 @@ ghost use Rattle.iol_view.specs.declared.map_lines.Part.TheVariants as part;
 ghost use Rattle.iol_view.specs.declared.map_outcome.Outcome.TheVariants as ending;
 ghost use Rattle.iol_view.specs.declared.map_slots.Reach.TheVariants as reach;
 
-/// One number, and several.
+/// The words for one number, and for several.
 pub fn spans()
     ensures one { span_text (codes "slot") (record { first = 5; last = 5 }) ≡ codes "slot 5" }
     ensures several { span_text (codes "slot") (record { first = 5; last = 256 }) ≡ codes "slots 5 to 256" }
@@ -33,7 +33,8 @@ pub fn parts()
     ensures unused { part_text part.Unused (record { first = 0; last = 0 }) ≡ codes "  " }
 {}
 
-/// An area that is in use, one that is older, one that is open while no area is in use, and one that is closed.
+/// The words for an area that is in use, for one that is older, for one that is open while no area is in use, and for one that
+/// is closed.
 pub fn areas()
     ensures in_use { area_text stands.InUse (header_with Two 2 4)
         ≡ codes "gate open, epoch 2, base 4, version 2, in use: open, greatest epoch" }
@@ -54,7 +55,7 @@ pub fn reaches()
         ≡ reach.Behind ∷ reach.Behind ∷ reach.Idle ∷ [] }
 {}
 
-/// Slots whose gate is closed: the first of an area that is in use, one after it, and one of the other area.
+/// The words for slots whose gate is closed: the first of an area that is in use, one after it, and one of the other area.
 pub fn closed_slots()
     ensures { map (slot_text 1 None) (reach.Next ∷ reach.Behind ∷ reach.Idle ∷ [])
         ≡ codes "gate closed, the first: slots behind it are not read" ∷ codes "gate closed" ∷ codes "gate closed" ∷ [] }

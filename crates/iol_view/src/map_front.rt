@@ -64,7 +64,7 @@ pub(crate) fn read_front<D: SectorDisk>(
     }
 }
 
-// The standing of an area whose gate is open.
+// Returns the standing of an area whose gate is open.
 fn standing_of(area: Area, chosen: Option<InUse>) -> Standing
     ensures { result ≡ standing_of area chosen }
 {
@@ -79,7 +79,7 @@ fn standing_of(area: Area, chosen: Option<InUse>) -> Standing
     }
 }
 
-// The line of the gate and the header of an area.
+// Returns the line of the gate and the header of an area.
 pub(crate) fn area_line(alloc: Global, layout: Layout, front: Front) -> Result<Line, AllocError>
     ensures { IfOk result (λ line. string_bytes line.text ≡ area_text front.standing front.header) }
 {
@@ -134,7 +134,7 @@ impl fmt::Display for Front {
     }
 }
 
-// The words for the gate of an area.
+// Returns the words for the gate of an area.
 fn gate_text(standing: Standing) -> &'static str
     ensures { result.now ≡ gate_text standing }
 {
@@ -144,7 +144,7 @@ fn gate_text(standing: Standing) -> &'static str
     }
 }
 
-// The words for the version that a header names.
+// Returns the words for the version that a header names.
 fn version_text(version: Option<Version>) -> &'static str
     ensures { result.now ≡ version_text version }
 {
@@ -155,7 +155,7 @@ fn version_text(version: Option<Version>) -> &'static str
     }
 }
 
-// The words for whether an area is in use, and why.
+// Returns the words for whether an area is in use, and why.
 fn standing_text(standing: Standing) -> &'static str
     ensures { result.now ≡ standing_text standing }
 {

@@ -22,7 +22,7 @@ impl Layouts {
     ghost use Rattle.iol_journal.specs.Geometry.{Geometry, geometry_of};
     ghost use Rattle.iol_view.specs.Map.{AreLayoutsOf, layout_in};
 
-    // The layouts of the numbers in sector 0, or `None` if it has no geometry.
+    // Returns the layouts of the numbers in sector 0, or `None` if it has no geometry.
     #[tactic(auto, using(crate::proofs::Layouts::newest_total, crate::proofs::Layouts::whole, crate::proofs::Layouts::numbers_of))]
     pub(crate) fn read(octets: &[u8; SECTOR_OCTETS]) -> Option<Layouts>
         ensures some { IfSome result (λ layouts. (g : Geometry) × (geometry_of octets.now ≡ Some g) × AreLayoutsOf g layouts) }
@@ -41,10 +41,10 @@ impl Layouts {
         }
     }
 
-    // The layout of an area with this header.
+    // Returns the layout of an area with this header.
     //
-    // A header that names no version was torn by a power stop while it, and what follows it, was written; and each header is
-    // written in the newest version.
+    // A header that names no version was torn by a power stop. Its area was being written then, and areas are written in the
+    // newest version.
     pub(crate) fn of(&self, header: Header) -> Layout
         ensures version { result ≡ layout_in header.version self.now }
         ensures size { total result ≡ total self.now.older }

@@ -26,7 +26,7 @@ enum Sign {
 }
 
 impl Sign {
-    // Whether a line has this sign.
+    // Returns whether a line has this sign.
     fn is_in(self, line: &Line) -> bool {
         match self {
             Sign::Open => line.cells.gate == Some(Gate::Open),
@@ -47,7 +47,7 @@ impl Sign {
         }
     }
 
-    // The cells that draw the sign.
+    // Returns the cells that draw the sign.
     fn cells(self) -> Cells {
         let (gate, used, unused) = match self {
             Sign::Open => (Some(Gate::Open), 0, 0),

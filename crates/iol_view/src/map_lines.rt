@@ -24,7 +24,7 @@ pub(crate) struct Span {
 }
 
 impl Span {
-    // The span of one number.
+    // Returns the span of one number.
     pub(crate) fn one(number: usize) -> Span
         ensures { result ≡ record { first = number; last = number } }
     {
@@ -34,7 +34,7 @@ impl Span {
         }
     }
 
-    // The span of `count` numbers from the first on, at least one.
+    // Returns the span of `count` numbers from the first on, at least one.
     pub(crate) fn counted(first: usize, count: usize) -> Span
         ensures { result ≡ record { first = first; last = min (first + (count - 1)) (2 ^ 64 - 1) } }
     {
@@ -44,14 +44,14 @@ impl Span {
         }
     }
 
-    // Whether the span is one number.
+    // Returns whether the span is one number.
     pub(crate) fn is_one(self) -> bool
         ensures { result ≡ (self.first == self.last) }
     {
         self.first == self.last
     }
 
-    // Whether this number is in the span.
+    // Returns whether this number is in the span.
     fn has(self, number: usize) -> bool {
         self.first <= number && number <= self.last
     }
@@ -73,7 +73,7 @@ pub(crate) struct Cells {
 }
 
 impl Cells {
-    // Whether the other cells are drawn the same.
+    // Returns whether the other cells are drawn the same.
     fn are_like(self, other: Cells) -> bool {
         self.gate == other.gate && self.used == other.used && self.unused == other.unused
     }
@@ -93,7 +93,7 @@ pub(crate) struct Line {
 }
 
 impl Line {
-    // Whether the next line says the same of the next part.
+    // Returns whether the next line says the same of the next part.
     fn is_like(&self, next: &Line) -> bool {
         self.part == next.part
             && self.cells.are_like(next.cells)
@@ -138,7 +138,7 @@ impl Lines {
         Ok(())
     }
 
-    // Whether a recovery finds one of these sectors damaged.
+    // Returns whether a recovery finds one of these sectors damaged.
     fn has_damage(&self, sectors: Span) -> bool {
         match self.damaged {
             Some(sector) => sectors.has(sector),

@@ -23,7 +23,7 @@ pub(crate) enum Outcome {
 }
 
 impl Outcome {
-    // The sector that is damaged, if one is.
+    // Returns the sector that is damaged, if one is.
     pub(crate) fn damaged(self) -> Option<usize>
         ensures { result ≡ damaged_in self }
     {

@@ -59,7 +59,7 @@ fn add_port<D: SectorDisk>(
     }
 }
 
-// The port that was read, or `None` if its sectors hold no record.
+// Returns the port that was read, or `None` if its sectors hold no record.
 fn found(read: Result<PortState, RecoverCause>) -> Result<Option<PortState>, RecoverCause>
     ensures { result ≡ record_in read }
 {
@@ -79,7 +79,7 @@ struct Record {
     read: usize,
 }
 
-// The line of a port.
+// Returns the line of a port.
 fn port_line(alloc: Global, record: Record, port: Option<PortState>) -> Result<Line, AllocError> {
     let text = RecordText { record, port }.to_string(alloc)?;
     Ok(Line {

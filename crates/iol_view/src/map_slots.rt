@@ -49,8 +49,8 @@ pub(crate) fn add_slots<D: SectorDisk>(
     Ok(())
 }
 
-// The number of slots of the batch that begins at a slot, with `left` slots left: 1 if the gate of the slot is closed, or if its
-// head reports more than are left.
+// Returns the number of slots of the batch that begins at a slot, with `left` slots left: 1 if the gate of the slot is closed,
+// or if its head reports more than are left.
 fn span_of(head: Option<Head>, left: usize) -> usize
     requires { 1 ≤ left }
     ensures { (1 ≤ result) × (result ≤ left) }
@@ -61,7 +61,7 @@ fn span_of(head: Option<Head>, left: usize) -> usize
     }
 }
 
-// How far a recovery gets at the first slot of an area.
+// Returns how far a recovery gets at the first slot of an area.
 fn first_reach(standing: Standing) -> Reach
     ensures { result ≡ first_reach standing }
 {
@@ -71,7 +71,7 @@ fn first_reach(standing: Standing) -> Reach
     }
 }
 
-// How far a recovery gets at the next slot.
+// Returns how far a recovery gets at the next slot.
 fn next_reach(reach: Reach, head: Option<Head>) -> Reach
     ensures { result ≡ next_reach reach head }
 {
@@ -83,7 +83,7 @@ fn next_reach(reach: Reach, head: Option<Head>) -> Reach
     }
 }
 
-// The line of a slot, or of the slots of a batch, in an area of this epoch.
+// Returns the line of a slot, or of the slots of a batch, in an area of this epoch.
 fn slot_line(
     alloc: Global,
     epoch: u64,
@@ -110,13 +110,13 @@ fn slot_line(
     })
 }
 
-// The number of sectors of these slots, with their gates.
+// Returns the number of sectors of these slots, with their gates.
 fn slot_sectors(numbers: Span) -> usize {
     let slots = numbers.last.saturating_sub(numbers.first).saturating_add(1);
     slots.saturating_mul(1 + BODY_SECTORS)
 }
 
-// The number of sectors of the first body of a batch that are used, by its head, which may be damaged.
+// Returns the number of sectors of the first body of a batch that are used, by its head, which may be damaged.
 fn body_sectors(head: Option<Head>) -> usize {
     match head {
         Some(head) => head.sectors().min(BODY_SECTORS),
@@ -187,7 +187,7 @@ fn write_commands<W: fmt::Write>(f: &mut fmt::Formatter<W>, head: Head) -> fmt::
     }
 }
 
-// Whether a head gives numbers to its commands.
+// Returns whether a head gives numbers to its commands.
 fn has_numbers(head: Head) -> bool
     ensures { result ≡ has_numbers head }
 {

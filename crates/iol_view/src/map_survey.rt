@@ -120,7 +120,7 @@ fn add_rest(
     Ok(())
 }
 
-// The line of one sector that belongs to no area. The sector is drawn as this gate, or as used if `gate` is `None`.
+// Returns the line of one sector that belongs to no area. The sector is drawn as this gate, or as used if `gate` is `None`.
 fn alone(sector: usize, gate: Option<Gate>, text: String) -> Line {
     let used = match gate {
         Some(_) => 0,
@@ -140,7 +140,7 @@ fn alone(sector: usize, gate: Option<Gate>, text: String) -> Line {
     }
 }
 
-// The text of the geometry's sector, on a disk of `there` sectors.
+// Returns the text of the geometry's sector, on a disk of `there` sectors.
 fn geometry_text(
     alloc: Global,
     octets: &[u8; SECTOR_OCTETS],

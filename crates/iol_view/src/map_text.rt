@@ -56,7 +56,7 @@ impl fmt::Display for Outcome {
     }
 }
 
-// The line without its line feed.
+// Writes the line without its line feed.
 impl fmt::Display for Line {
     ghost use Rattle.std.specs.Prelude.{Some};
     ghost use Rattle.iol_view.specs.Map.{line_text};
@@ -86,7 +86,7 @@ pub(crate) fn write_front<W: fmt::Write>(f: &mut fmt::Formatter<W>, line: &Line)
     write!(f, "{part}{sectors}: ")
 }
 
-// The end of a line, which has words if a recovery ends at its sectors.
+// Returns the end of a line, which has words if a recovery ends at its sectors.
 pub(crate) fn damage_text(damaged: bool) -> &'static str
     ensures { result.now ≡ damage_text damaged }
 {

@@ -4,7 +4,7 @@ use Rattle.iol_explain.specs.Explained.{told_lines, telling_after}
 use Rattle.iol_explain.specs.Telling.{first}
 use Rattle.iol_explain.proofs.explained.write_lines.Given as goal
 
--- the lines of the events so far, and what they told
+-- the lines of the events so far are written, and `telling` is what they have reported
 abbrev pub invariant-loop-place : goal.invariant-loop-place
 invariant-loop-place g l =
     let events = take l.place l.events in record {

@@ -13,7 +13,7 @@ use Rattle.iol_requests.proofs.object.number_in.Goals as goal
 numerals : IsNumeralModel (λ ds. all_ascii_digits ds ≡ true) (digits_value 10)
 numerals = numerals_by_value _ tells_all_ascii_digits
 
--- the result of the range test of a number
+-- a number in range passes the test
 fits : (long : ℕ) (value : ℕ) → 0 < long → value < 2 ^ 63
     → (if nat_lt 0 long && nat_lt value (2 ^ 63) then Some value else None) ≡ Some value
 fits long value some low = grind (arith, nat_tests)

@@ -7,7 +7,7 @@ use Rattle.iol_requests.specs.declared.request.Request.{Request}
 use Rattle.iol_requests.proofs.Tables.{Member}
 use Rattle.iol_requests.proofs.object.read_request.Goals as goal
 
--- an object asks for what its members ask for
+-- the request of an object is that of its members
 object_asks : (value : Value Global) (members : Vec Member Global) (items : List Member) → value ≡ Object members
     → items ≡ members.items → request_of (value_view value) ≡ request_with (members_view items)
 object_asks value members items is same =

@@ -10,7 +10,7 @@ use Rattle.iol_requests.specs.declared.verb.Verb.{Verb}
 use Rattle.iol_requests.proofs.Utf8.{document_text, pairs_text}
 use Rattle.iol_requests.proofs.words.read_words.Goals as goal
 
--- a text with a verb asks for what its document says
+-- the request of a text with a verb is that of its document
 says : (text word pairs document : List ℕ) (verb : Verb) → word ≡ before_first is_blank text → pairs ≡ after_first is_blank text
     → verb_of word ≡ Some verb → document ≡ document_of verb pairs
     → asked_in_words text ≡ option_and_then request_in (parse_document document)

@@ -7,12 +7,12 @@ use Rattle.std.specs.Prelude.{position}
 use Rattle.iol_requests.specs.Words.{is_blank}
 use Rattle.iol_requests.proofs.words.verb_and_pairs.Goals as goal
 
--- the place of a first blank that was found
+-- the place that was found is that of the first blank
 found_at : (b : Bool) (here place : ℕ) → cond b (Some here) None ≡ Some place → place ≡ here
 found_at true here place found = cc
 found_at false here place found = absurd (cc)
 
--- no place was found
+-- if no place was found, the test for one has failed
 found_none : (b : Bool) (here : ℕ) → cond b (Some here) None ≡ None → b ≡ false
 found_none true here found = absurd (cc)
 found_none false here found = refl

@@ -9,7 +9,7 @@ use Rattle.iol_run.specs.EngineOnDisk.{ports_with}
 use Rattle.iol_run.specs.Ports.{StepsIf}
 use Rattle.iol_run.proofs.step.step_port.Goals as goal
 
--- the link at a port's place
+-- the link at a port's place is the link of the port
 link_at : {L : Type 0} (links : List L) (place port : ℕ) (link : L) → place ≡ port - 1 → place < length links
     → link ≡ get_or links place link → slice_get links (port - 1) ≡ Some link
 link_at links place port link at within is = ap (slice_get links) (sym at) ∙ slice_get_read links (length links) place link refl within is

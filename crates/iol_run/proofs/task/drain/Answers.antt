@@ -25,7 +25,7 @@ returns-in-Ok-Idle-clause-tries g c =
     } in
     (steps, (refl, drained))
 
--- or it was out of memory
+-- the last turn was out of memory
 pub returns-in-Ok-Waited-clause-tries : goal.returns-in-Ok-Waited-clause-tries
 returns-in-Ok-Waited-clause-tries g c =
     let d = g.D.SectorDisk.disk in

@@ -14,7 +14,7 @@ use Rattle.iol_run.proofs.Telling.{step_told}
 use Rattle.iol_run.proofs.run.Run.step.Given as given
 use Rattle.iol_run.proofs.run.Run.step.Goals as goal
 
--- the events before, and those of the step
+-- the events after a step are those before it, and those of the step
 noted : (g : given.Over) (c : goal.After-note-2 g)
     → map stamp_of c.note-2.new.events.items
     ≡ map stamp_of c.self.inside.events.items

@@ -15,7 +15,7 @@ at_the_ports : (ports : ℤ) (devices : List Device)
 at_the_ports ports [] = refl
 at_the_ports ports (device ∷ devices) = rw (at_the_ports ports devices)
 
--- the result of a second test that is made only if a first one passes
+-- a second test has the result of both if the first one passes
 both_fit : (first second devices steps : Bool) → first ≡ devices → first ≡ true → second ≡ steps → second ≡ (devices && steps)
 both_fit first second devices steps same fits other = rw (← same, fits) other
 
