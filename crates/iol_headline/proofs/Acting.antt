@@ -9,6 +9,7 @@ use Rattle.iol_link.specs.Reading.{answer_of}
 use Rattle.iol_link.specs.declared.faults.IsduFault.{IsduFault}
 use Rattle.iol_link.specs.declared.messages.Answer.{Answer}
 use Rattle.iol_link.specs.Link.{LinkCall, LinkAnswer}
+use Rattle.iol_transfer.specs.declared.fault.TransferFault.TheVariants as transfer
 use Rattle.iol_port.proofs.Keeping.{IsAtHand}
 use Rattle.iol_port.specs.Answers.{RunsOut}
 use Rattle.iol_port.specs.Heard.{IsFed, fed, moved, at_stage, page_heard, attended}
@@ -27,6 +28,7 @@ use Rattle.iol_engine.specs.PortSteps.{Hears, attended_told, filed_told}
 use Rattle.iol_core.specs.Events.{Event, Page, Stamp}
 use Rattle.iol_headline.proofs.Going.{Goes, NextGoes, moved_goes, is_said, settles, still, plain_began}
 use Rattle.iol_port.specs.declared.fault.PortFault.TheVariants as fault
+use Rattle.iol_port.specs.declared.fault.StoringFault.TheVariants as unstored
 use Rattle.iol_port.specs.declared.stage.AttendFor.TheVariants as attend
 use Rattle.iol_port.specs.declared.stage.Rest.{Rest}
 use Rattle.iol_port.specs.declared.stage.Rest.TheVariants as rest
@@ -119,7 +121,7 @@ module _ {L : Type 0} (number : L → ℕ) (steps : L → LinkCall → LinkAnswe
       by_called called _ (Exchanging (exchange.EndingUpload page left)) _ hears.0.2.2
       (ending_goes first start port (number link) events clock page left hears.0.0 octets.items _ hears.0.1 is refl)
   acts_goes started requested (Exchanging (exchange.Stopping storing)) (input.Octets octets) called is hand comes hears good =
-      rests called (status_of (Exchanging (exchange.Stopping storing))) (rest.Failed fault.Stopped)
+      rests called (status_of (Exchanging (exchange.Stopping storing))) (rest.Failed (fault.Storing unstored.Stopped))
   acts_goes started requested (Exchanging exchange.Yielding) (input.Octets octets) called is hand comes hears good =
       stays called (Attending attend.Restarting) tt
   acts_goes started requested (Exchanging what) input.Lost called is hand comes hears good =
@@ -164,7 +166,7 @@ module _ {L : Type 0} (number : L → ℕ) (steps : L → LinkCall → LinkAnswe
       → Leads called was later
   out_goes (Uploading grant page upload) heard later called out =
       subst (λ (s : Stage). Leads called (Uploading grant page upload) s) (sym out.1)
-      (stays called (Breaking (held.Upload grant) fault.Memory) tt)
+      (stays called (Breaking (held.Upload grant) (fault.Transfer transfer.Memory)) tt)
   out_goes was heard later called out = absurd out
 
   -- what holds of a machine after an input

@@ -20,7 +20,7 @@ use Rattle.iol_port.proofs.Telling.{sent_step}
 use Rattle.iol_port.specs.Answers.{Sent, GoesOn, Done, Ends, sent, downloaded}
 use Rattle.iol_port.specs.Answers.{download_answered}
 use Rattle.iol_port.specs.Calls.{IsBegunFor}
-use Rattle.iol_port.specs.Faults.{of_isdu, of_transfer, of_download}
+use Rattle.iol_port.specs.declared.fault.PortFault.TheVariants as fault
 use Rattle.iol_port.specs.declared.stage.Held.TheVariants as held
 use Rattle.iol_port.specs.declared.stage.Rest.{Rest}
 use Rattle.iol_port.specs.declared.stage.Rest.TheVariants as rest
@@ -80,7 +80,7 @@ module _ (first : ℕ) (start : State) (port connection : ℕ) (events : List St
       → IsBeginDownload old port found.page.vendor found.page.device checksum new begins
       → IfOk begins (IsBegunFor port found.page.vendor found.page.device)
       → Leads [] status.Starting (download_begun found.page begins)
-  download_goes found checksum (Err why) old new core is begun comes = rests [] status.Starting (rest.Failed (of_download why))
+  download_goes found checksum (Err why) old new core is begun comes = rests [] status.Starting (rest.Failed (fault.Download why))
   download_goes found checksum (Ok begins) old new core is begun comes = by (durable_set old port) refl begun.2
     where
       examined : IsExamined decision.Download port (own port (events ++ []))
@@ -116,7 +116,7 @@ module _ (first : ℕ) (start : State) (port connection : ℕ) (events : List St
       → Downloads first start port connection download events → answer_of back ≡ heard
       → Leads (exchanged octets back) status.Downloading (download_answered permit page download heard)
   sent_goes permit page download octets back (Err why) spelled is read =
-      stays (exchanged octets back) (Breaking (held.Download permit) (of_isdu why)) tt
+      stays (exchanged octets back) (Breaking (held.Download permit) (fault.Isdu why)) tt
   sent_goes permit page download octets back (Ok said) spelled is read = by (sent download said) refl
     where
       by : (now : Sent) → sent download said ≡ now
@@ -144,4 +144,4 @@ module _ (first : ℕ) (start : State) (port connection : ℕ) (events : List St
         since = fed-on download next said download_step.More (sent_step download next said goes) is.stored.set is.conversation is.since;
       })
       by Done goes = stays (exchanged octets back) (Returning (held.Download permit) (rest.Ready page)) tt
-      by (Ends why) goes = stays (exchanged octets back) (Breaking (held.Download permit) (of_transfer why)) tt
+      by (Ends why) goes = stays (exchanged octets back) (Breaking (held.Download permit) (fault.Transfer why)) tt

@@ -26,6 +26,7 @@ use Rattle.iol_link.specs.declared.messages.Request.{Request}
 use Rattle.iol_transfer.proofs.Order.{follows-more}
 use Rattle.iol_transfer.specs.Exchanges.{Exchange, busy_times, read_of}
 use Rattle.iol_transfer.specs.Upload.{number_of}
+use Rattle.iol_transfer.specs.declared.fault.TransferFault.TheVariants as transfer
 use Rattle.iol_transfer.specs.declared.repeats.TheConstants.{MOST_REQUESTS}
 use Rattle.iol_port.proofs.Stages.{state_request, checksum_request}
 use Rattle.iol_port.specs.Answers.{failed, state_read, checksum_read}
@@ -183,7 +184,7 @@ module _ (first : ℕ) (start : State) (port connection : ℕ) (events : List St
       by : (test : Bool) → (length values.items == 1) ≡ test
           → Leads (exchanged octets back) status.Starting
           (if test then Exchanging (exchange.ReadingChecksum found (property_of (slice_index values.items 0)) MOST_REQUESTS)
-          else failed fault.Unexpected)
+          else failed (fault.Transfer transfer.Unexpected))
       by true one = stays (exchanged octets back)
           (Exchanging (exchange.ReadingChecksum found (property_of (slice_index values.items 0)) MOST_REQUESTS)) (record {
             front = busy_times is.times state_request ++ read_of DATA_STORAGE STATE_PROPERTY values.items ∷ [];
@@ -199,12 +200,12 @@ module _ (first : ℕ) (start : State) (port connection : ℕ) (events : List St
             count = omega arith;
             more = lit< tt;
           })
-      by false one = rests (exchanged octets back) status.Starting (rest.Failed fault.Unexpected)
+      by false one = rests (exchanged octets back) status.Starting (rest.Failed (fault.Transfer transfer.Unexpected))
   state_goes found left octets back (Ok answer.Busy) spelled is read = by (nat_lt 1 left) refl
     where
       by : (test : Bool) → nat_lt 1 left ≡ test
           → Leads (exchanged octets back) status.Starting
-          (if test then Exchanging (exchange.ReadingState found (left - 1)) else failed fault.Busy)
+          (if test then Exchanging (exchange.ReadingState found (left - 1)) else failed (fault.Transfer transfer.Busy))
       by true below = stays (exchanged octets back)
           (Exchanging (exchange.ReadingState found (left - 1))) (record {
             times = is.times + 1;
@@ -214,7 +215,7 @@ module _ (first : ℕ) (start : State) (port connection : ℕ) (events : List St
             count = let count = is.count in let more : 1 < left = ltb-true 1 left below in omega (arith, count, more);
             more = let more : 1 < left = ltb-true 1 left below in omega (arith, more);
           })
-      by false below = rests (exchanged octets back) status.Starting (rest.Failed fault.Busy)
+      by false below = rests (exchanged octets back) status.Starting (rest.Failed (fault.Transfer transfer.Busy))
   state_goes found left octets back other spelled is read = rests (exchanged octets back) status.Starting (rest.Failed (read_fault other))
 
   -- the answer to a read of Parameter_Checksum
@@ -229,7 +230,8 @@ module _ (first : ℕ) (start : State) (port connection : ℕ) (events : List St
 
       by : (test : Bool) → (length values.items == 4) ≡ test
           → Leads (exchanged octets back) status.Starting
-          (if test then Attending (attend.Confirming found property (number_of values.items)) else failed fault.Unexpected)
+          (if test then Attending (attend.Confirming found property (number_of values.items))
+          else failed (fault.Transfer transfer.Unexpected))
       by true four = stays (exchanged octets back)
           (Attending (attend.Confirming found property (number_of values.items))) (record {
             conversation = (is.front ++ busy_times is.times checksum_request) ++ read_of DATA_STORAGE PARAMETER_CHECKSUM values.items ∷ [];
@@ -244,12 +246,12 @@ module _ (first : ℕ) (start : State) (port connection : ℕ) (events : List St
             four = is_length values.items 4 four;
             checksum_is = refl;
           })
-      by false four = rests (exchanged octets back) status.Starting (rest.Failed fault.Unexpected)
+      by false four = rests (exchanged octets back) status.Starting (rest.Failed (fault.Transfer transfer.Unexpected))
   checksum_goes found property left octets back (Ok answer.Busy) spelled is read = by (nat_lt 1 left) refl
     where
       by : (test : Bool) → nat_lt 1 left ≡ test
           → Leads (exchanged octets back) status.Starting
-          (if test then Exchanging (exchange.ReadingChecksum found property (left - 1)) else failed fault.Busy)
+          (if test then Exchanging (exchange.ReadingChecksum found property (left - 1)) else failed (fault.Transfer transfer.Busy))
       by true below = stays (exchanged octets back)
           (Exchanging (exchange.ReadingChecksum found property (left - 1))) (record {
             front = is.front;
@@ -266,7 +268,7 @@ module _ (first : ℕ) (start : State) (port connection : ℕ) (events : List St
             count = let count = is.count in let more : 1 < left = ltb-true 1 left below in omega (arith, count, more);
             more = let more : 1 < left = ltb-true 1 left below in omega (arith, more);
           })
-      by false below = rests (exchanged octets back) status.Starting (rest.Failed fault.Busy)
+      by false below = rests (exchanged octets back) status.Starting (rest.Failed (fault.Transfer transfer.Busy))
   checksum_goes found property left octets back other spelled is read =
       rests (exchanged octets back) status.Starting (rest.Failed (read_fault other))
 

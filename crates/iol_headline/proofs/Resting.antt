@@ -17,6 +17,7 @@ use Rattle.iol_link.specs.Reading.{answer_of}
 use Rattle.iol_link.specs.declared.faults.IsduFault.{IsduFault}
 use Rattle.iol_link.specs.declared.messages.Answer.{Answer}
 use Rattle.iol_link.specs.Link.{LinkCall, LinkAnswer}
+use Rattle.iol_transfer.specs.declared.fault.TransferFault.TheVariants as transfer
 use Rattle.iol_port.proofs.Keeping.{IsAtHand}
 use Rattle.iol_port.specs.Answers.{RunsOut}
 use Rattle.iol_port.specs.Heard.{IsFed, fed, at_stage, page_heard, attended, upload_finished}
@@ -29,6 +30,7 @@ use Rattle.iol_port.specs.declared.action.Input.{Input}
 use Rattle.iol_port.specs.declared.action.Input.TheVariants as input
 use Rattle.iol_port.specs.declared.call.Reply.TheVariants as reply
 use Rattle.iol_port.specs.declared.fault.PortFault.TheVariants as fault
+use Rattle.iol_port.specs.declared.fault.StoringFault.TheVariants as unstored
 use Rattle.iol_port.specs.declared.stage.AttendFor.{AttendFor}
 use Rattle.iol_port.specs.declared.stage.AttendFor.TheVariants as attend
 use Rattle.iol_port.specs.declared.stage.ExchangeFor.TheVariants as exchange
@@ -125,11 +127,11 @@ module _ {L : Type 0} (number : L → ℕ) (steps : L → LinkCall → LinkAnswe
       by_none called (Filing grant page set) (Filing permit page back.value) told
       (stay port (own port events) (Filing permit page back.value) judged)
   filed_rests called grant page set (Err (finish.Exhausted permit back)) is judged told =
-      by_none called (Filing grant page set) (Breaking (held.Upload permit) fault.Exhausted) told
-      (stay port (own port events) (Breaking (held.Upload permit) fault.Exhausted) tt)
+      by_none called (Filing grant page set) (Breaking (held.Upload permit) (fault.Storing unstored.Exhausted)) told
+      (stay port (own port events) (Breaking (held.Upload permit) (fault.Storing unstored.Exhausted)) tt)
   filed_rests called grant page set (Err (finish.Memory permit back)) is judged told =
-      by_none called (Filing grant page set) (Breaking (held.Upload permit) fault.Memory) told
-      (stay port (own port events) (Breaking (held.Upload permit) fault.Memory) tt)
+      by_none called (Filing grant page set) (Breaking (held.Upload permit) (fault.Transfer transfer.Memory)) told
+      (stay port (own port events) (Breaking (held.Upload permit) (fault.Transfer transfer.Memory)) tt)
 
   -- what is reported at a stage
   abbrev IsTold : Stage → Type 0
@@ -188,7 +190,7 @@ module _ {L : Type 0} (number : L → ℕ) (steps : L → LinkCall → LinkAnswe
       (ended_rests port _ page left (answer_of octets.items)
       (judged_more port None (own port events) (trace.Exchange port (number link) hears.0.0 octets.items ∷ []) stands ((tt, tt), tt)))
   acts_rest started requested (Exchanging (exchange.Stopping storing)) (input.Octets octets) called is stands hand comes hears =
-      rests port (behind called) (status_of (Exchanging (exchange.Stopping storing))) (rest.Failed fault.Stopped) tt
+      rests port (behind called) (status_of (Exchanging (exchange.Stopping storing))) (rest.Failed (fault.Storing unstored.Stopped)) tt
   acts_rest started requested (Exchanging exchange.Yielding) (input.Octets octets) called is stands hand comes hears =
       stay port (behind called) (Attending attend.Restarting) tt
   acts_rest started requested (Exchanging what) input.Lost called is stands hand comes hears =
@@ -237,7 +239,7 @@ module _ {L : Type 0} (number : L → ℕ) (steps : L → LinkCall → LinkAnswe
       → Leads called was later
   out_rests (Uploading grant page upload) heard later called out =
       subst (λ (s : Stage). Leads called (Uploading grant page upload) s) (sym out.1)
-      (stay port (behind called) (Breaking (held.Upload grant) fault.Memory) tt)
+      (stay port (behind called) (Breaking (held.Upload grant) (fault.Transfer transfer.Memory)) tt)
   out_rests was heard later called out = absurd out
 
   -- what holds of a machine after an input

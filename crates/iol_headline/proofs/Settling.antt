@@ -24,11 +24,12 @@ use Rattle.iol_link.specs.declared.messages.Answer.TheVariants as answer
 use Rattle.iol_transfer.specs.Download.{Sender}
 use Rattle.iol_transfer.specs.Machine.{Machine, Outcome, More, Whole, Fault, step}
 use Rattle.iol_transfer.specs.Upload.{number_of}
+use Rattle.iol_transfer.specs.declared.fault.TransferFault.TheVariants as transfer
 use Rattle.iol_transfer.specs.declared.repeats.TheConstants.{MOST_REQUESTS}
 use Rattle.iol_port.specs.Answers.{failed, again, state_read, checksum_read, upload_ended, uploaded, upload_answered, Sent, GoesOn, Done}
 use Rattle.iol_port.specs.Answers.{Ends, sent, downloaded, download_answered}
 use Rattle.iol_port.specs.Decision.{decide}
-use Rattle.iol_port.specs.Faults.{of_isdu, of_transfer, of_permit, of_download, read_fault, write_fault}
+use Rattle.iol_port.specs.Faults.{read_fault, write_fault}
 use Rattle.iol_port.specs.Heard.{moved, started, page_heard, settled_with, found_by, judged, resumed, is_under, decided, attended}
 use Rattle.iol_port.specs.Heard.{upload_begun, download_begun, ticket_told}
 use Rattle.iol_port.specs.Stage.{Stage, PortValue, Next, To, Start, Settled, Paging, Attending, BeginningUpload, BeginningDownload}
@@ -131,9 +132,10 @@ module _ (port : ℕ) (events : List Event) where
       → Rests port events (status_exchanging next) (again left next)
   again_rests left next is = by (nat_lt 1 left)
     where
-      by : (test : Bool) → Rests port events (status_exchanging next) (if test then Exchanging next else failed fault.Busy)
+      by : (test : Bool) → Rests port events (status_exchanging next)
+          (if test then Exchanging next else failed (fault.Transfer transfer.Busy))
       by true = stay (Exchanging next) is
-      by false = rests (status_exchanging next) (rest.Failed fault.Busy) tt
+      by false = rests (status_exchanging next) (rest.Failed (fault.Transfer transfer.Busy)) tt
 
   -- answers to a read of State_Property and to one of Parameter_Checksum
   pub state_rests : (found : FoundDevice) (left : ℕ) (heard : Result Answer IsduFault) → Fits port found events
@@ -142,9 +144,9 @@ module _ (port : ℕ) (events : List Event) where
     where
       by : (test : Bool) → Rests port events status.Starting
           (if test then Exchanging (exchange.ReadingChecksum found (property_of (slice_index values.items 0)) MOST_REQUESTS)
-          else failed fault.Unexpected)
+          else failed (fault.Transfer transfer.Unexpected))
       by true = stay (Exchanging (exchange.ReadingChecksum found (property_of (slice_index values.items 0)) MOST_REQUESTS)) is
-      by false = rests status.Starting (rest.Failed fault.Unexpected) tt
+      by false = rests status.Starting (rest.Failed (fault.Transfer transfer.Unexpected)) tt
   state_rests found left (Ok answer.Busy) is = again_rests left (exchange.ReadingState found (left - 1)) is
   state_rests found left other is = rests status.Starting (rest.Failed (read_fault other)) tt
 
@@ -154,9 +156,10 @@ module _ (port : ℕ) (events : List Event) where
   checksum_rests found property left (Ok (answer.ReadOk values)) is = by (length values.items == 4)
     where
       by : (test : Bool) → Rests port events status.Starting
-          (if test then Attending (attend.Confirming found property (number_of values.items)) else failed fault.Unexpected)
+          (if test then Attending (attend.Confirming found property (number_of values.items))
+          else failed (fault.Transfer transfer.Unexpected))
       by true = stay (Attending (attend.Confirming found property (number_of values.items))) is
-      by false = rests status.Starting (rest.Failed fault.Unexpected) tt
+      by false = rests status.Starting (rest.Failed (fault.Transfer transfer.Unexpected)) tt
   checksum_rests found property left (Ok answer.Busy) is = again_rests left (exchange.ReadingChecksum found property (left - 1)) is
   checksum_rests found property left other is = rests status.Starting (rest.Failed (read_fault other)) tt
 
@@ -171,12 +174,12 @@ module _ (port : ℕ) (events : List Event) where
   pub upload_rests : (page : PageValue) (begins : Result UploadGrant PermitFault) → IsJudged port None events
       → Rests port events status.Starting (upload_begun page begins)
   upload_rests page (Ok grant) is = passes status.Starting status.Uploading ((tt, tt), tt) tt is
-  upload_rests page (Err why) is = rests status.Starting (rest.Failed (of_permit why)) tt
+  upload_rests page (Err why) is = rests status.Starting (rest.Failed (fault.Permit why)) tt
 
   pub download_rests : (page : PageValue) (begins : Result DownloadBegun DownloadFault) → IsJudged port None events
       → Rests port events status.Starting (download_begun page begins)
   download_rests page (Ok begins) is = passes status.Starting status.Downloading ((tt, tt), tt) tt is
-  download_rests page (Err why) is = rests status.Starting (rest.Failed (of_download why)) tt
+  download_rests page (Err why) is = rests status.Starting (rest.Failed (fault.Download why)) tt
 
   -- the set is stored
   pub stored_rests : (number : ℕ) (page : PageValue) → IsJudged port None events → Rests port events status.Uploading (Storing number page)
@@ -186,13 +189,13 @@ module _ (port : ℕ) (events : List Event) where
   pub uploaded_rests : (grant : UploadGrant) (page : PageValue) (upload : Machine) (heard : Result Answer IsduFault)
       → IsJudged port None events
       → Rests port events status.Uploading (upload_answered grant page upload heard)
-  uploaded_rests grant page upload (Err why) is = stay (Breaking (held.Upload grant) (of_isdu why)) tt
+  uploaded_rests grant page upload (Err why) is = stay (Breaking (held.Upload grant) (fault.Isdu why)) tt
   uploaded_rests grant page upload (Ok said) is = by (step upload said)
     where
       by : (outcome : Outcome) → Rests port events status.Uploading (uploaded grant page outcome)
       by (More next) = stay (Uploading grant page next) is
       by (Whole set) = stay (Filing grant page set) is
-      by (Fault why) = stay (Breaking (held.Upload grant) (of_transfer why)) tt
+      by (Fault why) = stay (Breaking (held.Upload grant) (fault.Transfer why)) tt
 
   -- the core says whether the set is durable
   pub ticket_rests : (number : ℕ) (page : PageValue) (state : TicketState) → IsJudged port None events
@@ -204,13 +207,13 @@ module _ (port : ℕ) (events : List Event) where
   -- the answer to a request of a download
   pub sent_rests : (permit : ℕ) (page : PageValue) (download : Sender) (heard : Result Answer IsduFault) → IsJudged port None events
       → Rests port events status.Downloading (download_answered permit page download heard)
-  sent_rests permit page download (Err why) is = stay (Breaking (held.Download permit) (of_isdu why)) tt
+  sent_rests permit page download (Err why) is = stay (Breaking (held.Download permit) (fault.Isdu why)) tt
   sent_rests permit page download (Ok said) is = by (sent download said)
     where
       by : (now : Sent) → Rests port events status.Downloading (downloaded permit page now)
       by (GoesOn next) = stay (Downloading permit page next) is
       by Done = stay (Returning (held.Download permit) (rest.Ready page)) is
-      by (Ends why) = stay (Breaking (held.Download permit) (of_transfer why)) tt
+      by (Ends why) = stay (Breaking (held.Download permit) (fault.Transfer why)) tt
 
   -- ---- pages
 

@@ -32,10 +32,11 @@ use Rattle.iol_transfer.specs.Command.{commanded}
 use Rattle.iol_transfer.specs.Exchanges.{Exchange, busy_times}
 use Rattle.iol_transfer.specs.Machine.{Machine, Outcome, More, Whole, Fault, step, asked, answered as next_exchange}
 use Rattle.iol_transfer.specs.Upload.{IsFinished}
+use Rattle.iol_transfer.specs.declared.fault.TransferFault.TheVariants as transfer
 use Rattle.iol_transfer.specs.declared.repeats.TheConstants.{MOST_REQUESTS}
 use Rattle.iol_transfer.specs.declared.upload.UploadStep.TheVariants as upload_step
 use Rattle.iol_port.specs.Answers.{failed, upload_ended, uploaded, upload_answered, sent}
-use Rattle.iol_port.specs.Faults.{of_isdu, of_transfer, of_permit, write_fault}
+use Rattle.iol_port.specs.Faults.{write_fault}
 use Rattle.iol_port.specs.declared.stage.Held.TheVariants as held
 use Rattle.iol_port.specs.declared.stage.Rest.{Rest}
 use Rattle.iol_port.specs.declared.stage.Rest.TheVariants as rest
@@ -46,6 +47,7 @@ use Rattle.iol_port.specs.Stage.{Stage, Settled, Exchanging, Uploading, Filing, 
 use Rattle.iol_port.specs.declared.decision.Decision.{Decision}
 use Rattle.iol_port.specs.declared.decision.Decision.TheVariants as decision
 use Rattle.iol_port.specs.declared.fault.PortFault.TheVariants as fault
+use Rattle.iol_port.specs.declared.fault.StoringFault.TheVariants as unstored
 use Rattle.iol_port.specs.declared.stage.ExchangeFor.TheVariants as exchange
 use Rattle.iol_port.specs.declared.stage.FoundDevice.{FoundDevice}
 use Rattle.iol_port.specs.declared.status.PortStatus.{PortStatus}
@@ -135,7 +137,7 @@ module _ (first : ℕ) (start : State) (port connection : ℕ) (events : List St
       → Begins first start port connection decision.Upload found events
       → IsBeginUpload old port found.page.vendor found.page.device found.connection new begins
       → Leads [] status.Starting (upload_begun found.page begins)
-  upload_goes found (Err why) old new core is begins = rests [] status.Starting (rest.Failed (of_permit why))
+  upload_goes found (Err why) old new core is begins = rests [] status.Starting (rest.Failed (fault.Permit why))
   upload_goes found (Ok grant) old new core is begins = by
     where
       there : (own : Port) × (port_numbered (live old) port ≡ Some own)
@@ -204,7 +206,7 @@ module _ (first : ℕ) (start : State) (port connection : ℕ) (events : List St
       → IsStage (upload_answered grant page upload heard)
       → Leads (exchanged octets back) status.Uploading (upload_answered grant page upload heard)
   uploaded_goes grant page upload octets back (Err why) spelled is read good =
-      stays (exchanged octets back) (Breaking (held.Upload grant) (of_isdu why)) tt
+      stays (exchanged octets back) (Breaking (held.Upload grant) (fault.Isdu why)) tt
   uploaded_goes grant page upload octets back (Ok said) spelled is read good = by (step upload said) refl good
     where
       by : (outcome : Outcome) → step upload said ≡ outcome → IsStage (uploaded grant page outcome)
@@ -219,7 +221,7 @@ module _ (first : ℕ) (start : State) (port connection : ℕ) (events : List St
         uploads = uploads_more grant is.conversation octets back (asked upload) said spelled read is.uploads;
         finished = whole-finished grant.vendor grant.device is.conversation upload said set is.since goes good.set_is;
       })
-      by (Fault why) goes good = stays (exchanged octets back) (Breaking (held.Upload grant) (of_transfer why)) tt
+      by (Fault why) goes good = stays (exchanged octets back) (Breaking (held.Upload grant) (fault.Transfer why)) tt
 
   -- the set of a finished upload may be filed: nothing has disturbed it
   pub whole_set : (grant : UploadGrant) (set : SetValue) (old : CoreView) → IsCoreAfter first start events old
@@ -288,9 +290,9 @@ module _ (first : ℕ) (start : State) (port connection : ℕ) (events : List St
       (subst (λ (s : SetValue). Told first start port connection (events ++ []) (Filing grant page s)) (sym filed.3)
       (told_later first start port connection events [] (Filing grant page set) refl is)))
   filed_goes grant page set (Err (finish.Exhausted permit back)) old new core is filed =
-      stays [] (Breaking (held.Upload permit) fault.Exhausted) tt
+      stays [] (Breaking (held.Upload permit) (fault.Storing unstored.Exhausted)) tt
   filed_goes grant page set (Err (finish.Memory permit back)) old new core is filed =
-      stays [] (Breaking (held.Upload permit) fault.Memory) tt
+      stays [] (Breaking (held.Upload permit) (fault.Transfer transfer.Memory)) tt
 
   -- a ticket that is durable is not above the core's number
   durable_below : (old : CoreView) (number : ℕ) → ticket_state old number ≡ ticket.Durable → number ≤ old.number
@@ -342,7 +344,7 @@ module _ (first : ℕ) (start : State) (port connection : ℕ) (events : List St
   ending_goes page left octets back (Ok answer.Busy) spelled is read = by (nat_lt 1 left)
     where
       by : (test : Bool) → Leads (exchanged octets back) status.Storing
-          (if test then Exchanging (exchange.EndingUpload page (left - 1)) else failed fault.Busy)
+          (if test then Exchanging (exchange.EndingUpload page (left - 1)) else failed (fault.Transfer transfer.Busy))
       by true = stays (exchanged octets back) (Exchanging (exchange.EndingUpload page (left - 1))) (record {
         number = is.number;
         stored = record {
@@ -371,6 +373,6 @@ module _ (first : ℕ) (start : State) (port connection : ℕ) (events : List St
         };
         durable = acknowledged_later first start port connection is.number events (stamped clock (exchanged octets back)) is.durable;
       })
-      by false = rests (exchanged octets back) status.Storing (rest.Failed fault.Busy)
+      by false = rests (exchanged octets back) status.Storing (rest.Failed (fault.Transfer transfer.Busy))
   ending_goes page left octets back (Ok answer.WriteOk) spelled is read = rests (exchanged octets back) status.Storing (rest.Ready page)
   ending_goes page left octets back other spelled is read = rests (exchanged octets back) status.Storing (rest.Failed (write_fault other))

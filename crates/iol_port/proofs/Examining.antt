@@ -7,6 +7,7 @@ use Rattle.iol_link.specs.declared.messages.Answer.TheVariants as answer
 use Rattle.iol_link.specs.declared.faults.IsduFault.{IsduFault}
 use Rattle.iol_link.specs.Page.{PageValue}
 use Rattle.arrayvec.specs.ArrayVec.{ArrayVec}
+use Rattle.iol_transfer.specs.declared.fault.TransferFault.TheVariants as transfer
 use Rattle.iol_port.specs.declared.fault.PortFault.TheVariants as fault
 use Rattle.iol_port.specs.Answers.{failed, state_read, checksum_read, upload_ended, exchanged}
 use Rattle.iol_port.specs.History.{Happening, Did}
@@ -52,7 +53,7 @@ state_told port found left before octets (Ok (answer.ReadOk values)) is read = b
     by : (test : Bool) → (length values.items == 1) ≡ test
         → StageIs port (Did (AnswerTo state_request) (input.Octets octets) ∷ before)
         (if test then Exchanging (exchange.ReadingChecksum found (property_of (slice_index values.items 0)) MOST_REQUESTS)
-        else failed fault.Unexpected)
+        else failed (fault.Transfer transfer.Unexpected))
     by true one = record {
       front = busy_times is.times state_request ++ read_of DATA_STORAGE STATE_PROPERTY values.items ∷ [];
       state = values.items;
@@ -73,7 +74,7 @@ state_told port found left before octets (Ok answer.Busy) is read = by (nat_lt 1
   where
     by : (test : Bool) → nat_lt 1 left ≡ test
         → StageIs port (Did (AnswerTo state_request) (input.Octets octets) ∷ before)
-        (if test then Exchanging (exchange.ReadingState found (left - 1)) else failed fault.Busy)
+        (if test then Exchanging (exchange.ReadingState found (left - 1)) else failed (fault.Transfer transfer.Busy))
     by true below = record {
       times = is.times + 1;
       found_is = record {
@@ -98,7 +99,8 @@ checksum_told port found property left before octets (Ok (answer.ReadOk values))
 
     by : (test : Bool) → (length values.items == 4) ≡ test
         → StageIs port (Did (AnswerTo checksum_request) (input.Octets octets) ∷ before)
-        (if test then Attending (attend.Confirming found property (number_of values.items)) else failed fault.Unexpected)
+        (if test then Attending (attend.Confirming found property (number_of values.items))
+        else failed (fault.Transfer transfer.Unexpected))
     by true four = record {
       conversation = is.front ++ busy_times is.times checksum_request ++ read_of DATA_STORAGE PARAMETER_CHECKSUM values.items ∷ [];
       state = is.state;
@@ -120,7 +122,7 @@ checksum_told port found property left before octets (Ok answer.Busy) is read = 
   where
     by : (test : Bool) → nat_lt 1 left ≡ test
         → StageIs port (Did (AnswerTo checksum_request) (input.Octets octets) ∷ before)
-        (if test then Exchanging (exchange.ReadingChecksum found property (left - 1)) else failed fault.Busy)
+        (if test then Exchanging (exchange.ReadingChecksum found property (left - 1)) else failed (fault.Transfer transfer.Busy))
     by true below = record {
       front = is.front;
       state = is.state;
@@ -151,7 +153,7 @@ ended_told : (port : ℕ) (page : PageValue) (left : ℕ) (before : List Happeni
 ended_told port page left before octets (Ok answer.Busy) is read = by (nat_lt 1 left)
   where
     by : (test : Bool) → StageIs port (Did (AnswerTo (commanded command.UploadEnd)) (input.Octets octets) ∷ before)
-        (if test then Exchanging (exchange.EndingUpload page (left - 1)) else failed fault.Busy)
+        (if test then Exchanging (exchange.EndingUpload page (left - 1)) else failed (fault.Transfer transfer.Busy))
     by true = (refl, read, is)
     by false = tt
 ended_told port page left before octets other is read = tt

@@ -24,6 +24,7 @@ use Rattle.iol_link.specs.Page.{PageValue, page_of}
 use Rattle.iol_link.specs.Validation.{ident_fault}
 use Rattle.iol_link.specs.declared.validation.IdentFault.{IdentFault}
 use Rattle.arrayvec.specs.ArrayVec.{ArrayVec}
+use Rattle.iol_transfer.specs.declared.fault.TransferFault.TheVariants as transfer
 use Rattle.iol_port.specs.declared.fault.PortFault.TheVariants as fault
 use Rattle.iol_core.specs.declared.permit.UploadGrant.{UploadGrant}
 use Rattle.iol_core.specs.declared.port.Work.{Work}
@@ -71,13 +72,13 @@ state_known was found left request before octets (Ok (answer.ReadOk values)) is 
   where
     by : (test : Bool) → KnownIs was (Did (AnswerTo request) (input.Octets octets) ∷ before)
         (if test then Exchanging (exchange.ReadingChecksum found (property_of (slice_index values.items 0)) MOST_REQUESTS)
-        else failed fault.Unexpected)
+        else failed (fault.Transfer transfer.Unexpected))
     by true = found_answered found request octets (ReadOk values) before is read
     by false = inr tt
 state_known was found left request before octets (Ok answer.Busy) is read = by (nat_lt 1 left)
   where
     by : (test : Bool) → KnownIs was (Did (AnswerTo request) (input.Octets octets) ∷ before)
-        (if test then Exchanging (exchange.ReadingState found (left - 1)) else failed fault.Busy)
+        (if test then Exchanging (exchange.ReadingState found (left - 1)) else failed (fault.Transfer transfer.Busy))
     by true = found_answered found request octets Busy before is read
     by false = inr tt
 state_known was found left request before octets other is read = inr tt
@@ -90,13 +91,14 @@ checksum_known : (was : PortStatus) (found : FoundDevice) (property : PropertyVa
 checksum_known was found property left request before octets (Ok (answer.ReadOk values)) is read = by (length values.items == 4)
   where
     by : (test : Bool) → KnownIs was (Did (AnswerTo request) (input.Octets octets) ∷ before)
-        (if test then Attending (attend.Confirming found property (number_of values.items)) else failed fault.Unexpected)
+        (if test then Attending (attend.Confirming found property (number_of values.items))
+        else failed (fault.Transfer transfer.Unexpected))
     by true = found_answered found request octets (ReadOk values) before is read
     by false = inr tt
 checksum_known was found property left request before octets (Ok answer.Busy) is read = by (nat_lt 1 left)
   where
     by : (test : Bool) → KnownIs was (Did (AnswerTo request) (input.Octets octets) ∷ before)
-        (if test then Exchanging (exchange.ReadingChecksum found property (left - 1)) else failed fault.Busy)
+        (if test then Exchanging (exchange.ReadingChecksum found property (left - 1)) else failed (fault.Transfer transfer.Busy))
     by true = found_answered found request octets Busy before is read
     by false = inr tt
 checksum_known was found property left request before octets other is read = inr tt
@@ -110,7 +112,7 @@ ended_known was page left request before octets (Ok answer.WriteOk) is read =
 ended_known was page left request before octets (Ok answer.Busy) is read = by (nat_lt 1 left)
   where
     by : (test : Bool) → KnownIs was (Did (AnswerTo request) (input.Octets octets) ∷ before)
-        (if test then Exchanging (exchange.EndingUpload page (left - 1)) else failed fault.Busy)
+        (if test then Exchanging (exchange.EndingUpload page (left - 1)) else failed (fault.Transfer transfer.Busy))
     by true = known_answered page request octets Busy before is read
     by false = inr tt
 ended_known was page left request before octets other is read = inr tt

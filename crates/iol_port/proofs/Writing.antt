@@ -69,7 +69,7 @@ again_written : (port : ℕ) (was : PortStatus) (history : List Happening) (left
     → WrittenIs port was history (again left next)
 again_written port was history left next = by (nat_lt 1 left)
   where
-    by : (test : Bool) → WrittenIs port was history (if test then Exchanging next else failed fault.Busy)
+    by : (test : Bool) → WrittenIs port was history (if test then Exchanging next else failed (fault.Transfer transfer.Busy))
     by true = tt
     by false = inr tt
 
@@ -79,7 +79,7 @@ state_written port was history found left (Ok (answer.ReadOk octets)) = by (leng
   where
     by : (test : Bool) → WrittenIs port was history
         (if test then Exchanging (exchange.ReadingChecksum found (property_of (slice_index octets.items 0)) MOST_REQUESTS)
-        else failed fault.Unexpected)
+        else failed (fault.Transfer transfer.Unexpected))
     by true = tt
     by false = inr tt
 state_written port was history found left (Ok answer.Busy) = again_written port was history left (exchange.ReadingState found (left - 1))
@@ -90,7 +90,8 @@ checksum_written : (port : ℕ) (was : PortStatus) (history : List Happening) (f
 checksum_written port was history found property left (Ok (answer.ReadOk octets)) = by (length octets.items == 4)
   where
     by : (test : Bool) → WrittenIs port was history
-        (if test then Attending (attend.Confirming found property (number_of octets.items)) else failed fault.Unexpected)
+        (if test then Attending (attend.Confirming found property (number_of octets.items))
+        else failed (fault.Transfer transfer.Unexpected))
     by true = tt
     by false = inr tt
 checksum_written port was history found property left (Ok answer.Busy) =

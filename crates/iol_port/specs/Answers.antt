@@ -14,10 +14,11 @@ use Rattle.iol_transfer.specs.declared.fault.TransferFault.{TransferFault}
 use Rattle.iol_transfer.specs.declared.fault.TransferFault.TheVariants as transfer
 use Rattle.iol_transfer.specs.declared.repeats.TheConstants.{MOST_REQUESTS}
 use Rattle.iol_core.specs.declared.permit.UploadGrant.{UploadGrant}
-use Rattle.iol_port.specs.Faults.{of_isdu, of_transfer, read_fault, write_fault}
+use Rattle.iol_port.specs.Faults.{read_fault, write_fault}
 use Rattle.iol_port.specs.Stage.{Stage, Settled, Attending, Exchanging, Uploading, Filing, Downloading, Breaking, Returning}
 use Rattle.iol_port.specs.declared.fault.PortFault.{PortFault}
 use Rattle.iol_port.specs.declared.fault.PortFault.TheVariants as fault
+use Rattle.iol_port.specs.declared.fault.StoringFault.TheVariants as unstored
 use Rattle.iol_port.specs.declared.stage.Rest.TheVariants as rest
 use Rattle.iol_port.specs.declared.stage.FoundDevice.{FoundDevice}
 use Rattle.iol_port.specs.declared.stage.AttendFor.TheVariants as attend
@@ -31,14 +32,14 @@ failed why = Settled (rest.Failed why)
 
 -- after Device busy, if a request may still be sent `left` times: it is sent again, or the port fails after the last time (own)
 abbrev pub again : ℕ → ExchangeFor → Stage
-again left next = if nat_lt 1 left then Exchanging next else failed fault.Busy
+again left next = if nat_lt 1 left then Exchanging next else failed (fault.Transfer transfer.Busy)
 
 -- after State_Property, one octet, was read from a device that was found (own)
 abbrev pub state_read : FoundDevice → ℕ → Result Answer IsduFault → Stage
 state_read found left (Ok (answer.ReadOk octets)) =
     if length octets.items == 1
     then Exchanging (exchange.ReadingChecksum found (property_of (slice_index octets.items 0)) MOST_REQUESTS)
-    else failed fault.Unexpected
+    else failed (fault.Transfer transfer.Unexpected)
 state_read found left (Ok answer.Busy) = again left (exchange.ReadingState found (left - 1))
 state_read found left other = failed (read_fault other)
 
@@ -47,7 +48,7 @@ abbrev pub checksum_read : FoundDevice → PropertyValue → ℕ → Result Answ
 checksum_read found property left (Ok (answer.ReadOk octets)) =
     if length octets.items == 4
     then Attending (attend.Confirming found property (number_of octets.items))
-    else failed fault.Unexpected
+    else failed (fault.Transfer transfer.Unexpected)
 checksum_read found property left (Ok answer.Busy) = again left (exchange.ReadingChecksum found property (left - 1))
 checksum_read found property left other = failed (read_fault other)
 
@@ -62,19 +63,19 @@ abbrev pub exchanged : ExchangeFor → Result Answer IsduFault → Stage
 exchanged (exchange.ReadingState found left) heard = state_read found left heard
 exchanged (exchange.ReadingChecksum found property left) heard = checksum_read found property left heard
 exchanged (exchange.EndingUpload page left) heard = upload_ended page left heard
-exchanged (exchange.Stopping storing) heard = failed fault.Stopped
+exchanged (exchange.Stopping storing) heard = failed (fault.Storing unstored.Stopped)
 exchanged exchange.Yielding heard = Attending attend.Restarting
 
 -- how an upload continues: with its next request, by filing its set, or it is broken off (own)
 abbrev pub uploaded : UploadGrant → PageValue → Outcome → Stage
 uploaded grant page (More upload) = Uploading grant page upload
 uploaded grant page (Whole set) = Filing grant page set
-uploaded grant page (Fault why) = Breaking (held.Upload grant) (of_transfer why)
+uploaded grant page (Fault why) = Breaking (held.Upload grant) (fault.Transfer why)
 
 -- after an answer to a request of an upload (own)
 abbrev pub upload_answered : UploadGrant → PageValue → Machine → Result Answer IsduFault → Stage
 upload_answered grant page upload (Ok heard) = uploaded grant page (step upload heard)
-upload_answered grant page upload (Err why) = Breaking (held.Upload grant) (of_isdu why)
+upload_answered grant page upload (Err why) = Breaking (held.Upload grant) (fault.Isdu why)
 
 -- an answer needs memory, as it is to be kept or makes an upload whole (own)
 abbrev pub AsksMemory : Machine → Result Answer IsduFault → Type 0
@@ -108,11 +109,11 @@ sent download (answer.ReadFault error additional) = Ends transfer.Unexpected
 abbrev pub downloaded : ℕ → PageValue → Sent → Stage
 downloaded port page (GoesOn download) = Downloading port page download
 downloaded port page Done = Returning (held.Download port) (rest.Ready page)
-downloaded port page (Ends why) = Breaking (held.Download port) (of_transfer why)
+downloaded port page (Ends why) = Breaking (held.Download port) (fault.Transfer why)
 
 abbrev pub download_answered : ℕ → PageValue → Sender → Result Answer IsduFault → Stage
 download_answered port page download (Ok heard) = downloaded port page (sent download heard)
-download_answered port page download (Err why) = Breaking (held.Download port) (of_isdu why)
+download_answered port page download (Err why) = Breaking (held.Download port) (fault.Isdu why)
 
 -- after an answer of the device; the answer to DS_Break is ignored (own)
 abbrev pub answered : Stage → Result Answer IsduFault → Stage
@@ -124,5 +125,6 @@ answered stage heard = stage
 
 -- out of memory for an answer that needs it: the upload is broken off (own)
 abbrev pub RunsOut : Stage → Result Answer IsduFault → Stage → Type 0
-RunsOut (Uploading grant page upload) heard new = AsksMemory upload heard × (new ≡ Breaking (held.Upload grant) fault.Memory)
+RunsOut (Uploading grant page upload) heard new =
+    AsksMemory upload heard × (new ≡ Breaking (held.Upload grant) (fault.Transfer transfer.Memory))
 RunsOut _ heard new = ⊥

@@ -8,6 +8,7 @@ use Rattle.iol_link.specs.declared.validation.IdentFault.{IdentFault}
 use Rattle.iol_transfer.specs.Property.{PropertyValue}
 use Rattle.iol_transfer.specs.Machine.{begun}
 use Rattle.iol_transfer.specs.Download.{begun_download}
+use Rattle.iol_transfer.specs.declared.fault.TransferFault.TheVariants as transfer
 use Rattle.iol_transfer.specs.declared.repeats.TheConstants.{MOST_REQUESTS}
 use Rattle.iol_core.specs.declared.permit.UploadGrant.{UploadGrant}
 use Rattle.iol_core.specs.declared.port.Work.{Work}
@@ -21,7 +22,6 @@ use Rattle.iol_core.specs.declared.download.DownloadFault.{DownloadFault}
 use Rattle.iol_port.specs.Answers.{failed, answered, RunsOut}
 use Rattle.iol_port.specs.Calls.{HandsBack}
 use Rattle.iol_port.specs.Decision.{decide}
-use Rattle.iol_port.specs.Faults.{of_permit, of_download}
 use Rattle.iol_port.specs.Stage.{Stage, Settled, Paging, Attending, BeginningUpload, BeginningDownload, Exchanging, Uploading, Filing}
 use Rattle.iol_port.specs.Stage.{machine_at, Filed, Storing, Downloading, Breaking, Returning, Returned, PortValue, Next, To, Start}
 use Rattle.iol_port.specs.declared.action.Input.{Input}
@@ -32,6 +32,7 @@ use Rattle.iol_port.specs.declared.call.Reply.TheVariants as reply
 use Rattle.iol_port.specs.declared.decision.Decision.{Decision}
 use Rattle.iol_port.specs.declared.decision.Decision.TheVariants as decision
 use Rattle.iol_port.specs.declared.fault.PortFault.TheVariants as fault
+use Rattle.iol_port.specs.declared.fault.StoringFault.TheVariants as unstored
 use Rattle.iol_port.specs.declared.stage.Rest.{Rest}
 use Rattle.iol_port.specs.declared.stage.Rest.TheVariants as rest
 use Rattle.iol_port.specs.declared.stage.FoundDevice.{FoundDevice}
@@ -126,7 +127,7 @@ told started requested stage work = To stage
 -- after a permit to upload is given or refused (own)
 abbrev pub upload_begun : PageValue → Result UploadGrant PermitFault → Stage
 upload_begun page (Ok grant) = Uploading grant page (begun grant.vendor grant.device)
-upload_begun page (Err why) = failed (of_permit why)
+upload_begun page (Err why) = failed (fault.Permit why)
 
 abbrev pub upload_permitted : Stage → Result UploadGrant PermitFault → Stage
 upload_permitted (BeginningUpload found) begins = upload_begun found.page begins
@@ -135,7 +136,7 @@ upload_permitted stage begins = stage
 -- after a permit to download is given, with the set, or refused (own)
 abbrev pub download_begun : PageValue → Result DownloadBegun DownloadFault → Stage
 download_begun page (Ok begins) = Downloading begins.permit page (begun_download begins.set.value)
-download_begun page (Err why) = failed (of_download why)
+download_begun page (Err why) = failed (fault.Download why)
 
 abbrev pub download_permitted : Stage → Result DownloadBegun DownloadFault → Stage
 download_permitted (BeginningDownload found checksum) begins = download_begun found.page begins
@@ -148,8 +149,8 @@ upload_finished page (Ok ticket) = Storing ticket page
 upload_finished page (Err finish.Stopped) = Exchanging (exchange.Stopping false)
 upload_finished page (Err finish.ConfigChanged) = Exchanging exchange.Yielding
 upload_finished page (Err (finish.QueueFull permit set)) = Filing permit page set.value
-upload_finished page (Err (finish.Exhausted permit set)) = Breaking (held.Upload permit) fault.Exhausted
-upload_finished page (Err (finish.Memory permit set)) = Breaking (held.Upload permit) fault.Memory
+upload_finished page (Err (finish.Exhausted permit set)) = Breaking (held.Upload permit) (fault.Storing unstored.Exhausted)
+upload_finished page (Err (finish.Memory permit set)) = Breaking (held.Upload permit) (fault.Transfer transfer.Memory)
 
 abbrev pub finished_upload : Stage → Result ℕ FinishFault → Stage
 finished_upload (Filed page) finished = upload_finished page finished

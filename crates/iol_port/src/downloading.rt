@@ -23,7 +23,7 @@ pub(crate) fn begin(page: Page, begun: Result<DownloadBegun, DownloadFault>) -> 
         Ok(DownloadBegun { permit, set }) => {
             Stage::Answer(AwaitsAnswer::Downloading(permit, page, Download::begin(set)))
         }
-        Err(fault) => fail(PortFault::of_download(fault)),
+        Err(fault) => fail(PortFault::Download(fault)),
     }
 }
 
@@ -43,9 +43,9 @@ pub(crate) fn answer(
             DownloadStep::More => Stage::Answer(AwaitsAnswer::Downloading(permit, page, download)),
             DownloadStep::Whole => give_back(Held::Download(permit), Rest::Ready(page)),
             DownloadStep::Fault(fault) => {
-                break_off(Held::Download(permit), PortFault::of_transfer(fault))
+                break_off(Held::Download(permit), PortFault::Transfer(fault))
             }
         },
-        Err(fault) => break_off(Held::Download(permit), PortFault::of_isdu(fault)),
+        Err(fault) => break_off(Held::Download(permit), PortFault::Isdu(fault)),
     }
 }

@@ -15,6 +15,7 @@ ghost use Rattle.iol_transfer.specs.Exchanges.{carried};
 ghost use Rattle.iol_transfer.specs.Machine.{begun};
 ghost use Rattle.iol_transfer.specs.declared.fault.TransferFault.TheVariants as transfer;
 ghost use Rattle.iol_transfer.specs.declared.repeats.TheConstants.{MOST_REQUESTS};
+ghost use Rattle.iol_core.specs.Statuses as trace;
 ghost use Rattle.iol_core.specs.declared.ticket.TicketState.TheVariants as ticket;
 ghost use Rattle.iol_core.specs.declared.upload.FinishFault.TheVariants as finish;
 ghost use Rattle.iol_core.specs.declared.upload.PermitFault.TheVariants as permit;
@@ -28,14 +29,16 @@ ghost use Rattle.iol_port.specs.Heard.{fed, noted, lost, resumed, confirmed, jud
 ghost use Rattle.iol_port.specs.Heard.{first_stage, upload_begun, download_begun, upload_finished, ticket_told, page_heard};
 ghost use Rattle.iol_port.specs.Stage.{Settled, Paging, Attending, BeginningUpload, BeginningDownload, Exchanging, Uploading, Filing};
 ghost use Rattle.iol_port.specs.Stage.{Filed, Storing, Downloading, Breaking, Returning, Returned, Start, To};
-ghost use Rattle.iol_port.specs.Faults.{of_isdu, of_transfer, of_permit, of_download, read_fault, write_fault};
+ghost use Rattle.iol_port.specs.Faults.{read_fault, write_fault};
 ghost use Rattle.iol_port.specs.Status.{status_of};
+ghost use Rattle.iol_port.specs.Telling.{failure_told};
 ghost use Rattle.iol_port.specs.Wanted.{ThePage, AnswerTo, ReplyTo, wanted};
 ghost use Rattle.iol_port.specs.declared.action.Input.TheVariants as input;
 ghost use Rattle.iol_port.specs.declared.call.Reply.TheVariants as reply;
 ghost use Rattle.iol_port.specs.declared.action.TheConstants.{UPLOAD_REQUEST};
 ghost use Rattle.iol_port.specs.declared.decision.Decision.TheVariants as decision;
 ghost use Rattle.iol_port.specs.declared.fault.PortFault.TheVariants as fault;
+ghost use Rattle.iol_port.specs.declared.fault.StoringFault.TheVariants as unstored;
 ghost use Rattle.iol_port.specs.declared.stage.AttendFor.TheVariants as attend;
 ghost use Rattle.iol_port.specs.declared.stage.ExchangeFor.TheVariants as exchange;
 ghost use Rattle.iol_port.specs.declared.stage.Held.TheVariants as held;
@@ -87,7 +90,8 @@ pub fn requests()
     ensures end { wanted 1 (Exchanging (exchange.EndingUpload fitting_page 16)) ≡ AnswerTo (request.Write 3 1 (carried (2 ∷ []))) }
     ensures stopping { wanted 1 (Exchanging (exchange.Stopping true)) ≡ AnswerTo (request.Write 3 1 (carried (5 ∷ []))) }
     ensures yielding { wanted 1 (Exchanging exchange.Yielding) ≡ AnswerTo (request.Write 3 1 (carried (5 ∷ []))) }
-    ensures breaking { wanted 1 (Breaking (held.Upload example_grant) fault.Size) ≡ AnswerTo (request.Write 3 1 (carried (5 ∷ []))) }
+    ensures breaking { wanted 1 (Breaking (held.Upload example_grant) (fault.Transfer transfer.Size))
+        ≡ AnswerTo (request.Write 3 1 (carried (5 ∷ []))) }
     ensures permit { wanted 1 (BeginningUpload (example_found None)) ≡ ReplyTo (BeginUpload 1 500 43981 3) }
 {}
 
@@ -95,19 +99,21 @@ pub fn requests()
 pub fn a_busy_device()
     ensures most { MOST_REQUESTS ≡ 16 }
     ensures fifteenth { state_read (example_found None) 2 (Ok answer.Busy) ≡ Exchanging (exchange.ReadingState (example_found None) 1) }
-    ensures sixteenth { state_read (example_found None) 1 (Ok answer.Busy) ≡ failed fault.Busy }
+    ensures sixteenth { state_read (example_found None) 1 (Ok answer.Busy) ≡ failed (fault.Transfer transfer.Busy) }
 {}
 
 /// State_Property 80 is inactive with the flag set. Two octets are no State_Property, and three are no checksum.
 pub fn what_is_read()
     ensures state { state_read (example_found None) 16 (Ok (answer.ReadOk (carried (0x80 ∷ []))))
         ≡ Exchanging (exchange.ReadingChecksum (example_found None) flagged 16) }
-    ensures two { state_read (example_found None) 16 (Ok (answer.ReadOk (carried (0x80 ∷ 0x00 ∷ [])))) ≡ failed fault.Unexpected }
-    ensures refused { state_read (example_found None) 16 (Ok (answer.ReadFault 0x80 0x11)) ≡ failed (fault.Refused 0x80 0x11) }
+    ensures two { state_read (example_found None) 16 (Ok (answer.ReadOk (carried (0x80 ∷ 0x00 ∷ []))))
+        ≡ failed (fault.Transfer transfer.Unexpected) }
+    ensures refused { state_read (example_found None) 16 (Ok (answer.ReadFault 0x80 0x11))
+        ≡ failed (fault.Transfer (transfer.Refused 0x80 0x11)) }
     ensures sum { checksum_read (example_found None) flagged 16 (Ok (answer.ReadOk (carried (0 ∷ 0 ∷ 2 ∷ 0x4F ∷ []))))
         ≡ Attending (attend.Confirming (example_found None) flagged 591) }
     ensures three { checksum_read (example_found None) flagged 16 (Ok (answer.ReadOk (carried (0 ∷ 2 ∷ 0x4F ∷ []))))
-        ≡ failed fault.Unexpected }
+        ≡ failed (fault.Transfer transfer.Unexpected) }
 {}
 
 /// Event FF91 is the request for an upload. It makes a woken port start, which otherwise compares its device's page first.
@@ -139,31 +145,32 @@ pub fn the_end_of_an_upload()
     ensures stopped { upload_finished fitting_page (Err finish.Stopped) ≡ Exchanging (exchange.Stopping false) }
     ensures changed { upload_finished fitting_page (Err finish.ConfigChanged) ≡ Exchanging exchange.Yielding }
     ensures fails { fed (example_machine false (Exchanging (exchange.Stopping true))) (input.Octets (carried (0x52 ∷ 0x52 ∷ [])))
-        ≡ example_machine false (failed fault.Stopped) }
+        ≡ example_machine false (failed (fault.Storing unstored.Stopped)) }
 {}
 
 /// The status is `Lost` at once, even if a permit is still to be returned.
 pub fn a_loss()
-    ensures held { lost (Breaking (held.Upload example_grant) fault.Size) ≡ Returning (held.Upload example_grant) rest.Lost }
+    ensures held { lost (Breaking (held.Upload example_grant) (fault.Transfer transfer.Size))
+        ≡ Returning (held.Upload example_grant) rest.Lost }
     ensures without_a_permit { map lost (Paging (page.Identifying (example_work None))
         ∷ Exchanging (exchange.ReadingState (example_found None) 16) ∷ [])
         ≡ replicate 2 (Settled rest.Lost) }
     ensures upload { lost (Uploading example_grant fitting_page (begun 500 43981)) ≡ Returning (held.Upload example_grant) rest.Lost }
     ensures download { lost (Downloading 1 fitting_page (begun_download example_set)) ≡ Returning (held.Download 1) rest.Lost }
     ensures status { status_of (Returning (held.Upload example_grant) rest.Lost) ≡ status.Lost }
-    ensures other { status_of (Returning (held.Upload example_grant) (rest.Failed fault.Size)) ≡ status.Uploading }
+    ensures other { status_of (Returning (held.Upload example_grant) (rest.Failed (fault.Transfer transfer.Size))) ≡ status.Uploading }
 {}
 
 /// The status at each stage.
 pub fn statuses()
-    ensures settled { map (λ own. status_of (Settled own)) (rest.Off ∷ rest.Lost ∷ rest.Failed fault.Size ∷ rest.Ready fitting_page
-        ∷ rest.ReadyLocked fitting_page ∷ rest.ReadyEmpty fitting_page
+    ensures settled { map (λ own. status_of (Settled own)) (rest.Off ∷ rest.Lost ∷ rest.Failed (fault.Transfer transfer.Size)
+        ∷ rest.Ready fitting_page ∷ rest.ReadyLocked fitting_page ∷ rest.ReadyEmpty fitting_page
         ∷ rest.Mismatch ident.Vendor fitting_page ∷ [])
-        ≡ status.Off ∷ status.Lost ∷ status.Failed fault.Size ∷ status.Ready ∷ status.ReadyLocked ∷ status.ReadyEmpty
-        ∷ status.Mismatch ident.Vendor ∷ [] }
-    ensures woken { map status_of (Attending (attend.Waking (rest.Failed fault.Size))
+        ≡ status.Off ∷ status.Lost ∷ status.Failed (fault.Transfer transfer.Size) ∷ status.Ready ∷ status.ReadyLocked
+        ∷ status.ReadyEmpty ∷ status.Mismatch ident.Vendor ∷ [] }
+    ensures woken { map status_of (Attending (attend.Waking (rest.Failed (fault.Transfer transfer.Size)))
         ∷ Paging (page.Comparing (example_work None) (rest.ReadyLocked fitting_page)) ∷ [])
-        ≡ status.Failed fault.Size ∷ status.ReadyLocked ∷ [] }
+        ≡ status.Failed (fault.Transfer transfer.Size) ∷ status.ReadyLocked ∷ [] }
     ensures starting { map status_of (Paging (page.Identifying (example_work None))
         ∷ Exchanging (exchange.ReadingState (example_found None) 16)
         ∷ Exchanging (exchange.ReadingChecksum (example_found None) flagged 16)
@@ -171,39 +178,45 @@ pub fn statuses()
         ∷ BeginningUpload (example_found None) ∷ BeginningDownload (example_found (Some 7)) 591 ∷ []) ≡ replicate 6 status.Starting }
     ensures uploading { map status_of (Uploading example_grant fitting_page (begun 500 43981)
         ∷ Filing example_grant fitting_page example_set ∷ Filed fitting_page ∷ Exchanging (exchange.Stopping false)
-        ∷ Exchanging exchange.Yielding ∷ Attending attend.Restarting ∷ Breaking (held.Upload example_grant) fault.Size
-        ∷ Returned kind.Upload (rest.Failed fault.Size) ∷ []) ≡ replicate 8 status.Uploading }
+        ∷ Exchanging exchange.Yielding ∷ Attending attend.Restarting ∷ Breaking (held.Upload example_grant) (fault.Transfer transfer.Size)
+        ∷ Returned kind.Upload (rest.Failed (fault.Transfer transfer.Size)) ∷ []) ≡ replicate 8 status.Uploading }
     ensures storing { map status_of (Storing 2 fitting_page ∷ Exchanging (exchange.EndingUpload fitting_page 16)
         ∷ Exchanging (exchange.Stopping true) ∷ []) ≡ replicate 3 status.Storing }
     ensures downloading { map status_of (Downloading 1 fitting_page (begun_download example_set)
-        ∷ Breaking (held.Download 1) fault.Busy ∷ Returning (held.Download 1) (rest.Ready fitting_page)
-        ∷ Returned kind.Download (rest.Failed fault.Busy) ∷ []) ≡ replicate 4 status.Downloading }
+        ∷ Breaking (held.Download 1) (fault.Transfer transfer.Busy) ∷ Returning (held.Download 1) (rest.Ready fitting_page)
+        ∷ Returned kind.Download (rest.Failed (fault.Transfer transfer.Busy)) ∷ []) ≡ replicate 4 status.Downloading }
 {}
 
-/// Each fault of an ISDU, a transfer, a permit or an answer is this fault of the port.
+/// Each fault of a port is told in a trace by this name, and each answer that is not the expected one is this fault.
 pub fn names_of_faults()
-    ensures isdu { map of_isdu (isdu.Empty ∷ isdu.Reserved ∷ isdu.WrongService ∷ isdu.Length ∷ isdu.Check ∷ [])
-        ≡ fault.Empty ∷ fault.Reserved ∷ fault.WrongService ∷ fault.Length ∷ fault.Check ∷ [] }
-    ensures transfer { map of_transfer (transfer.Refused 0x80 0x11 ∷ transfer.Unexpected ∷ transfer.Size
-        ∷ transfer.List ∷ transfer.Busy ∷ transfer.Memory ∷ [])
-        ≡ fault.Refused 0x80 0x11 ∷ fault.Unexpected ∷ fault.Size ∷ fault.List ∷ fault.Busy ∷ fault.Memory ∷ [] }
-    ensures upload { map of_permit (permit.Stopped ∷ permit.NotAllowed ∷ permit.WrongDevice ∷ permit.Taken ∷ [])
-        ≡ fault.Stopped ∷ fault.NotAllowed ∷ fault.WrongDevice ∷ fault.Taken ∷ [] }
-    ensures download { map of_download (download.NotAllowed ∷ download.Empty ∷ download.WrongDevice
+    ensures isdu { map (λ why. failure_told (fault.Isdu why)) (isdu.Empty ∷ isdu.Reserved ∷ isdu.WrongService
+        ∷ isdu.Length ∷ isdu.Check ∷ [])
+        ≡ trace.Empty ∷ trace.Reserved ∷ trace.WrongService ∷ trace.Length ∷ trace.Check ∷ [] }
+    ensures transfer { map (λ why. failure_told (fault.Transfer why)) (transfer.Refused 0x80 0x11 ∷ transfer.Unexpected
+        ∷ transfer.Size ∷ transfer.List ∷ transfer.Busy ∷ transfer.Memory ∷ [])
+        ≡ trace.Refused 0x80 0x11 ∷ trace.Unexpected ∷ trace.Size ∷ trace.List ∷ trace.Busy ∷ trace.Memory ∷ [] }
+    ensures upload { map (λ why. failure_told (fault.Permit why)) (permit.Stopped ∷ permit.NotAllowed ∷ permit.WrongDevice
+        ∷ permit.Taken ∷ [])
+        ≡ trace.Stopped ∷ trace.NotAllowed ∷ trace.WrongDevice ∷ trace.Taken ∷ [] }
+    ensures download { map (λ why. failure_told (fault.Download why)) (download.NotAllowed ∷ download.Empty ∷ download.WrongDevice
         ∷ download.Taken ∷ download.Same ∷ download.Memory ∷ [])
-        ≡ fault.NotAllowed ∷ fault.NoSet ∷ fault.WrongDevice ∷ fault.Taken ∷ fault.Same ∷ fault.Memory ∷ [] }
-    ensures read { map read_fault (Err isdu.Check ∷ Ok (answer.ReadFault 0x80 0x11)
+        ≡ trace.NotAllowed ∷ trace.NoSet ∷ trace.WrongDevice ∷ trace.Taken ∷ trace.Same ∷ trace.Memory ∷ [] }
+    ensures storing { map (λ why. failure_told (fault.Storing why)) (unstored.Stopped ∷ unstored.Exhausted ∷ [])
+        ≡ trace.Stopped ∷ trace.Exhausted ∷ [] }
+    ensures read { map read_fault (Err isdu.Check ∷ Ok answer.Busy ∷ Ok (answer.ReadFault 0x80 0x11)
         ∷ Ok (answer.WriteFault 0x80 0x11) ∷ Ok answer.WriteOk ∷ [])
-        ≡ fault.Check ∷ fault.Refused 0x80 0x11 ∷ fault.Unexpected ∷ fault.Unexpected ∷ [] }
-    ensures write { map write_fault (Err isdu.Check ∷ Ok (answer.WriteFault 0x80 0x11)
+        ≡ fault.Isdu isdu.Check ∷ fault.Transfer transfer.Busy ∷ fault.Transfer (transfer.Refused 0x80 0x11)
+        ∷ fault.Transfer transfer.Unexpected ∷ fault.Transfer transfer.Unexpected ∷ [] }
+    ensures write { map write_fault (Err isdu.Check ∷ Ok answer.Busy ∷ Ok (answer.WriteFault 0x80 0x11)
         ∷ Ok (answer.ReadFault 0x80 0x11) ∷ Ok (answer.ReadOk (carried [])) ∷ [])
-        ≡ fault.Check ∷ fault.Refused 0x80 0x11 ∷ fault.Unexpected ∷ fault.Unexpected ∷ [] }
+        ≡ fault.Isdu isdu.Check ∷ fault.Transfer transfer.Busy ∷ fault.Transfer (transfer.Refused 0x80 0x11)
+        ∷ fault.Transfer transfer.Unexpected ∷ fault.Transfer transfer.Unexpected ∷ [] }
 {}
 
 /// A woken port stays off if it was off, starts if its device was lost or it had failed, and otherwise reads the page.
 pub fn a_woken_port()
     ensures off { resumed rest.Off (example_work None) ≡ To (Settled rest.Off) }
-    ensures starts { map (λ own. resumed own (example_work None)) (rest.Lost ∷ rest.Failed fault.Size ∷ [])
+    ensures starts { map (λ own. resumed own (example_work None)) (rest.Lost ∷ rest.Failed (fault.Transfer transfer.Size) ∷ [])
         ≡ replicate 2 (Start (example_work None)) }
     ensures mismatch { resumed (rest.Mismatch ident.Vendor fitting_page) (example_work None)
         ≡ To (Paging (page.Comparing (example_work None) (rest.Mismatch ident.Vendor fitting_page))) }
@@ -229,14 +242,14 @@ pub fn an_identified_device()
 
 /// A refused permit fails the port without DS_Break, and a fault of a running transfer sends DS_Break.
 pub fn refused_permits_and_broken_transfers()
-    ensures upload { upload_begun fitting_page (Err permit.Taken) ≡ failed fault.Taken }
-    ensures download { download_begun fitting_page (Err download.Same) ≡ failed fault.Same }
+    ensures upload { upload_begun fitting_page (Err permit.Taken) ≡ failed (fault.Permit permit.Taken) }
+    ensures download { download_begun fitting_page (Err download.Same) ≡ failed (fault.Download download.Same) }
     ensures no_answer { upload_answered example_grant fitting_page (begun 500 43981) (Err isdu.Check)
-        ≡ Breaking (held.Upload example_grant) fault.Check }
+        ≡ Breaking (held.Upload example_grant) (fault.Isdu isdu.Check) }
     ensures refused { upload_answered example_grant fitting_page (begun 500 43981) (Ok (answer.WriteFault 0x80 0x23))
-        ≡ Breaking (held.Upload example_grant) (fault.Refused 0x80 0x23) }
+        ≡ Breaking (held.Upload example_grant) (fault.Transfer (transfer.Refused 0x80 0x23)) }
     ensures download_refused { downloaded 1 fitting_page (sent (begun_download example_set) (answer.WriteFault 0x80 0x23))
-        ≡ Breaking (held.Download 1) (fault.Refused 0x80 0x23) }
+        ≡ Breaking (held.Download 1) (fault.Transfer (transfer.Refused 0x80 0x23)) }
     ensures download_done { downloaded 1 fitting_page Done ≡ Returning (held.Download 1) (rest.Ready fitting_page) }
 {}
 
@@ -247,7 +260,8 @@ pub fn a_device_that_stays_busy()
         ≡ GoesOn (record (begun_download example_set) { busy = 15 }) }
     ensures sixteenth { sent (record (begun_download example_set) { busy = 15 }) answer.Busy ≡ Ends transfer.Busy }
     ensures ended { upload_ended fitting_page 16 (Ok answer.WriteOk) ≡ Settled (rest.Ready fitting_page) }
-    ensures end_refused { upload_ended fitting_page 16 (Ok (answer.WriteFault 0x80 0x23)) ≡ failed (fault.Refused 0x80 0x23) }
+    ensures end_refused { upload_ended fitting_page 16 (Ok (answer.WriteFault 0x80 0x23))
+        ≡ failed (fault.Transfer (transfer.Refused 0x80 0x23)) }
     ensures end_fifteenth { upload_ended fitting_page 2 (Ok answer.Busy) ≡ Exchanging (exchange.EndingUpload fitting_page 1) }
-    ensures end_sixteenth { upload_ended fitting_page 1 (Ok answer.Busy) ≡ failed fault.Busy }
+    ensures end_sixteenth { upload_ended fitting_page 1 (Ok answer.Busy) ≡ failed (fault.Transfer transfer.Busy) }
 {}

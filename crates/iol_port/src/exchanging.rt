@@ -7,10 +7,10 @@ ghost use Rattle.iol_port.specs.Stage.{IsStage, Exchanging, Breaking};
 ghost use Rattle.iol_port.specs.View.{stage_of};
 
 use crate::attending::attend;
-use crate::fault::PortFault;
+use crate::fault::{PortFault, StoringFault};
 use crate::stage::{AttendFor, AwaitsAnswer, ExchangeFor, FoundDevice, Held, Rest, Stage};
 use iol_link::{Answer, IsduFault, Page, read_answer};
-use iol_transfer::{MOST_REQUESTS, StateProperty};
+use iol_transfer::{MOST_REQUESTS, StateProperty, TransferFault};
 
 // Reads octets as an answer, or returns their fault.
 pub(crate) fn answer_in(octets: &[u8]) -> Result<Answer, IsduFault>
@@ -51,7 +51,7 @@ fn again(left: u8, next: ExchangeFor) -> Stage
     if 1 < left {
         send(next)
     } else {
-        fail(PortFault::Busy)
+        fail(PortFault::Transfer(TransferFault::Busy))
     }
 }
 
@@ -68,7 +68,7 @@ pub(crate) fn exchange(what: ExchangeFor, answer: Result<Answer, IsduFault>) -> 
             left,
         } => read_checksum(found, property, left, answer),
         ExchangeFor::EndingUpload { page, left } => end_upload(page, left, answer),
-        ExchangeFor::Stopping { .. } => fail(PortFault::Stopped),
+        ExchangeFor::Stopping { .. } => fail(PortFault::Storing(StoringFault::Stopped)),
         ExchangeFor::Yielding => attend(AttendFor::Restarting),
     }
 }
@@ -85,7 +85,7 @@ fn read_state(found: FoundDevice, left: u8, answer: Result<Answer, IsduFault>) -
                 property: StateProperty::read(*octet),
                 left: MOST_REQUESTS,
             }),
-            _ => fail(PortFault::Unexpected),
+            _ => fail(PortFault::Transfer(TransferFault::Unexpected)),
         },
         Ok(Answer::Busy) => again(
             left,
@@ -115,7 +115,7 @@ fn read_checksum(
                 property,
                 checksum: u32::from_be_bytes([*first, *second, *third, *fourth]),
             }),
-            _ => fail(PortFault::Unexpected),
+            _ => fail(PortFault::Transfer(TransferFault::Unexpected)),
         },
         Ok(Answer::Busy) => again(
             left,

@@ -38,6 +38,6 @@ mod uploading;
 pub use action::{Action, Input, UPLOAD_REQUEST, Want};
 pub use call::{CoreCall, Reply};
 pub use decision::{Decision, decide};
-pub use fault::PortFault;
+pub use fault::{PortFault, StoringFault};
 pub use machine::PortMachine;
 pub use status::PortStatus;

@@ -4,6 +4,7 @@ ghost use Rattle.std.specs.Prelude.{◌≡◌, ◌↔◌, IsTrue};
 
 use crate::fault::PortFault;
 use crate::status::PortStatus;
+use iol_transfer::TransferFault;
 
 // Whether both statuses are equal.
 pub(crate) fn is_same_status(one: PortStatus, other: PortStatus) -> bool
@@ -35,33 +36,49 @@ fn is_same_fault(one: PortFault, other: PortFault) -> bool
     ensures { IsTrue result ↔ (one ≡ other) }
 {
     match one {
-        PortFault::Refused { error, additional } => is_refusal(other, error, additional),
-        PortFault::Unexpected => matches!(other, PortFault::Unexpected),
-        PortFault::Size => matches!(other, PortFault::Size),
-        PortFault::List => matches!(other, PortFault::List),
-        PortFault::Busy => matches!(other, PortFault::Busy),
-        PortFault::Memory => matches!(other, PortFault::Memory),
-        PortFault::Empty => matches!(other, PortFault::Empty),
-        PortFault::Reserved => matches!(other, PortFault::Reserved),
-        PortFault::WrongService => matches!(other, PortFault::WrongService),
-        PortFault::Length => matches!(other, PortFault::Length),
-        PortFault::Check => matches!(other, PortFault::Check),
-        PortFault::Stopped => matches!(other, PortFault::Stopped),
-        PortFault::NotAllowed => matches!(other, PortFault::NotAllowed),
-        PortFault::WrongDevice => matches!(other, PortFault::WrongDevice),
-        PortFault::Taken => matches!(other, PortFault::Taken),
-        PortFault::Same => matches!(other, PortFault::Same),
-        PortFault::Exhausted => matches!(other, PortFault::Exhausted),
-        PortFault::NoSet => matches!(other, PortFault::NoSet),
+        PortFault::Isdu(fault) => match other {
+            PortFault::Isdu(also) => fault == also,
+            _ => false,
+        },
+        PortFault::Transfer(fault) => match other {
+            PortFault::Transfer(also) => is_same_transfer(fault, also),
+            _ => false,
+        },
+        PortFault::Permit(fault) => match other {
+            PortFault::Permit(also) => fault == also,
+            _ => false,
+        },
+        PortFault::Download(fault) => match other {
+            PortFault::Download(also) => fault == also,
+            _ => false,
+        },
+        PortFault::Storing(fault) => match other {
+            PortFault::Storing(also) => fault == also,
+            _ => false,
+        },
+    }
+}
+
+// Whether both faults of a transfer are equal.
+fn is_same_transfer(one: TransferFault, other: TransferFault) -> bool
+    ensures { IsTrue result ↔ (one ≡ other) }
+{
+    match one {
+        TransferFault::Refused { error, additional } => is_refusal(other, error, additional),
+        TransferFault::Unexpected => matches!(other, TransferFault::Unexpected),
+        TransferFault::Size => matches!(other, TransferFault::Size),
+        TransferFault::List => matches!(other, TransferFault::List),
+        TransferFault::Busy => matches!(other, TransferFault::Busy),
+        TransferFault::Memory => matches!(other, TransferFault::Memory),
     }
 }
 
 // Whether the fault is a refusal with this ErrorCode and AdditionalCode.
-fn is_refusal(fault: PortFault, code: u8, more: u8) -> bool
-    ensures { IsTrue result ↔ (PortFault.Refused code more ≡ fault) }
+fn is_refusal(fault: TransferFault, code: u8, more: u8) -> bool
+    ensures { IsTrue result ↔ (TransferFault.Refused code more ≡ fault) }
 {
     match fault {
-        PortFault::Refused { error, additional } => error == code && additional == more,
+        TransferFault::Refused { error, additional } => error == code && additional == more,
         _ => false,
     }
 }

@@ -2,20 +2,21 @@
 
 ghost use Rattle.std.specs.Prelude.{◌≡◌, ◌⊎◌, Ok};
 ghost use Rattle.iol_transfer.specs.Machine.{step};
+ghost use Rattle.iol_transfer.specs.declared.fault.TransferFault.TheVariants as transfer;
 ghost use Rattle.iol_port.specs.Answers.{uploaded, upload_answered, RunsOut};
 ghost use Rattle.iol_port.specs.Calls.{HandsBack, IsUnder};
 ghost use Rattle.iol_port.specs.Heard.{upload_begun, upload_finished, ticket_told};
 ghost use Rattle.iol_port.specs.Stage.{IsStage, Uploading, Filing, Breaking};
 ghost use Rattle.iol_port.specs.View.{stage_of};
-ghost use Rattle.iol_port.specs.declared.fault.PortFault.TheVariants.{Memory};
+ghost use Rattle.iol_port.specs.declared.fault.PortFault.TheVariants as fault;
 ghost use Rattle.iol_port.specs.declared.stage.Held.TheVariants as held;
 
 use crate::exchanging::{break_off, fail, send};
-use crate::fault::PortFault;
+use crate::fault::{PortFault, StoringFault};
 use crate::stage::{AwaitsAnswer, AwaitsCore, ExchangeFor, Held, SpendsPermit, Stage};
 use iol_core::{FinishFault, PermitFault, Ticket, TicketState, UploadPermit};
 use iol_link::{Answer, IsduFault, Page};
-use iol_transfer::{MOST_REQUESTS, Upload, UploadStep};
+use iol_transfer::{MOST_REQUESTS, TransferFault, Upload, UploadStep};
 use iol_types::DataSet;
 use std::alloc::Global;
 use std::sync::Arc;
@@ -31,7 +32,7 @@ pub(crate) fn begin(alloc: Global, page: Page, begun: Result<UploadPermit, Permi
             let upload = Upload::begin(alloc, grant.vendor, grant.device);
             Stage::Answer(AwaitsAnswer::Uploading(permit, page, upload))
         }
-        Err(fault) => fail(PortFault::of_permit(fault)),
+        Err(fault) => fail(PortFault::Permit(fault)),
     }
 }
 
@@ -50,7 +51,7 @@ pub(crate) fn answer(
 {
     match answer {
         Ok(answer) => feed(alloc, permit, page, upload, answer),
-        Err(fault) => break_off(Held::Upload(permit), PortFault::of_isdu(fault)),
+        Err(fault) => break_off(Held::Upload(permit), PortFault::Isdu(fault)),
     }
 }
 
@@ -65,21 +66,23 @@ fn feed(alloc: Global, permit: UploadPermit, page: Page, upload: Upload, answer:
     match upload.feed(answer) {
         UploadStep::More => Stage::Answer(AwaitsAnswer::Uploading(permit, page, upload)),
         UploadStep::Whole(set) => file(alloc, permit, page, set),
-        UploadStep::Fault(fault) => {
-            break_off(Held::Upload(permit), PortFault::of_transfer(fault))
-        }
+        UploadStep::Fault(fault) => break_off(Held::Upload(permit), PortFault::Transfer(fault)),
     }
 }
 
 // Files the set of a finished upload, or breaks the upload off if out of memory.
 fn file(alloc: Global, permit: UploadPermit, page: Page, set: DataSet) -> Stage
     requires { IsUnder permit set }
-    ensures stage { (stage_of result ≡ Filing permit page set) ⊎ (stage_of result ≡ Breaking (held.Upload permit) Memory) }
+    ensures stage { (stage_of result ≡ Filing permit page set)
+        ⊎ (stage_of result ≡ Breaking (held.Upload permit) (fault.Transfer transfer.Memory)) }
     ensures holds { IsStage (stage_of result) }
 {
     match Arc::new(alloc, set) {
         Ok(set) => Stage::Permit(SpendsPermit::Filing(permit, page, set)),
-        Err(_) => break_off(Held::Upload(permit), PortFault::Memory),
+        Err(_) => break_off(
+            Held::Upload(permit),
+            PortFault::Transfer(TransferFault::Memory),
+        ),
     }
 }
 
@@ -96,12 +99,14 @@ pub(crate) fn finish(page: Page, finished: Result<Ticket, FinishFault>) -> Stage
         Err(FinishFault::QueueFull(permit, set)) => {
             Stage::Permit(SpendsPermit::Filing(permit, page, set))
         }
-        Err(FinishFault::Exhausted(permit, _set)) => {
-            break_off(Held::Upload(permit), PortFault::Exhausted)
-        }
-        Err(FinishFault::Memory(permit, _set)) => {
-            break_off(Held::Upload(permit), PortFault::Memory)
-        }
+        Err(FinishFault::Exhausted(permit, _set)) => break_off(
+            Held::Upload(permit),
+            PortFault::Storing(StoringFault::Exhausted),
+        ),
+        Err(FinishFault::Memory(permit, _set)) => break_off(
+            Held::Upload(permit),
+            PortFault::Transfer(TransferFault::Memory),
+        ),
     }
 }
 
