@@ -349,7 +349,7 @@ class Schedule(Subject):
             return "turn that waited"
         if "ended Memory, 0 waits\n" in out:
             return "ended before a step" if out.replace("ended Memory", "ended Whole") in self.beginnings else None
-        if out.count("status Failed(Memory)\n") == 1 and "disk failed" not in out:
+        if len(re.findall(r"status Failed\((?:Transfer|Download)\(Memory\)\)\n", out)) == 1 and "disk failed" not in out:
             return "failed transfer" if has_known_ports(out, self.states) else None
         is_known = recovered(out) in self.states and self.has_failed_sync(out)
         return "failed sync" if is_known else None

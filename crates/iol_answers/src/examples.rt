@@ -6,6 +6,7 @@ ghost use Rattle.iol_types.specs.Examples.{example_config, port_of, renewed_port
 ghost use Rattle.iol_types.specs.declared.command.CommandFault.TheVariants as command;
 ghost use Rattle.iol_core.specs.declared.ticket.SubmitFault.TheVariants as submit;
 ghost use Rattle.iol_link.specs.declared.validation.IdentFault.TheVariants as ident;
+ghost use Rattle.iol_transfer.specs.declared.fault.TransferFault.TheVariants as transfer;
 ghost use Rattle.iol_port.specs.declared.fault.PortFault.TheVariants as port;
 ghost use Rattle.iol_port.specs.declared.status.PortStatus.TheVariants as status;
 ghost use Rattle.iol_answers.specs.AnswerLines.{answer_lines};
@@ -125,7 +126,7 @@ pub fn serving()
 
 /// The event that the status of a port has changed.
 pub fn changed_statuses()
-    ensures words { map event_line (event.Status 1 status.Ready ∷ event.Status 1 (status.Failed port.Busy) ∷ [])
+    ensures words { map event_line (event.Status 1 status.Ready ∷ event.Status 1 (status.Failed (port.Transfer transfer.Busy)) ∷ [])
         ≡ codes "port 1 ready # the transfer is done: device and stored set are the same\n"
         ∷ codes "port 1 failed Busy # the device was busy sixteen times in a row: wait until it is idle, and connect it again\n" ∷ [] }
     ensures json { compact_text (event_data (event.Status 1 status.Ready))

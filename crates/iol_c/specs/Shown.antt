@@ -2,6 +2,16 @@
 use Rattle.std.specs.Prelude.{ℕ, true, false, length, Option, None, Some}
 use Rattle.iol_link.specs.declared.validation.IdentFault.{IdentFault}
 use Rattle.iol_link.specs.declared.validation.IdentFault.TheVariants as ident
+use Rattle.iol_link.specs.declared.faults.IsduFault.{IsduFault}
+use Rattle.iol_link.specs.declared.faults.IsduFault.TheVariants as isdu
+use Rattle.iol_transfer.specs.declared.fault.TransferFault.{TransferFault}
+use Rattle.iol_transfer.specs.declared.fault.TransferFault.TheVariants as transfer
+use Rattle.iol_core.specs.declared.upload.PermitFault.{PermitFault}
+use Rattle.iol_core.specs.declared.upload.PermitFault.TheVariants as permit
+use Rattle.iol_core.specs.declared.download.DownloadFault.{DownloadFault}
+use Rattle.iol_core.specs.declared.download.DownloadFault.TheVariants as download
+use Rattle.iol_port.specs.declared.fault.StoringFault.{StoringFault}
+use Rattle.iol_port.specs.declared.fault.StoringFault.TheVariants as unstored
 use Rattle.iol_port.specs.declared.fault.PortFault.{PortFault}
 use Rattle.iol_port.specs.declared.fault.PortFault.TheVariants as fault
 use Rattle.iol_port.specs.declared.status.PortStatus.{PortStatus}
@@ -51,34 +61,64 @@ mismatch_octet ident.Device = 1
 mismatch_octet ident.Revision = 2
 mismatch_octet ident.NoIsdu = 3
 
+-- the number for the fault of an exchange or a transfer, as `enum iolm_failure` (own)
+abbrev pub transfer_octet : TransferFault → ℕ
+transfer_octet (transfer.Refused error additional) = 0
+transfer_octet transfer.Unexpected = 1
+transfer_octet transfer.Size = 2
+transfer_octet transfer.List = 3
+transfer_octet transfer.Busy = 4
+transfer_octet transfer.Memory = 5
+
+-- the number for octets that are no answer, as `enum iolm_failure` (own)
+abbrev pub isdu_octet : IsduFault → ℕ
+isdu_octet isdu.Empty = 6
+isdu_octet isdu.Reserved = 7
+isdu_octet isdu.WrongService = 8
+isdu_octet isdu.Length = 9
+isdu_octet isdu.Check = 10
+
+-- the number for why a port gets no permit to upload, as `enum iolm_failure` (own)
+abbrev pub permit_octet : PermitFault → ℕ
+permit_octet permit.Stopped = 11
+permit_octet permit.NotAllowed = 12
+permit_octet permit.WrongDevice = 13
+permit_octet permit.Taken = 14
+
+-- the number for why a port gets no permit to download, as `enum iolm_failure` (own)
+abbrev pub download_octet : DownloadFault → ℕ
+download_octet download.NotAllowed = 12
+download_octet download.Empty = 17
+download_octet download.WrongDevice = 13
+download_octet download.Taken = 14
+download_octet download.Same = 15
+download_octet download.Memory = 5
+
+-- the number for why the set of a finished upload is not stored, as `enum iolm_failure` (own)
+abbrev pub storing_octet : StoringFault → ℕ
+storing_octet unstored.Stopped = 11
+storing_octet unstored.Exhausted = 16
+
 -- the number for what has failed, as `enum iolm_failure` (own)
 abbrev pub failure_octet : PortFault → ℕ
-failure_octet (fault.Refused error additional) = 0
-failure_octet fault.Unexpected = 1
-failure_octet fault.Size = 2
-failure_octet fault.List = 3
-failure_octet fault.Busy = 4
-failure_octet fault.Memory = 5
-failure_octet fault.Empty = 6
-failure_octet fault.Reserved = 7
-failure_octet fault.WrongService = 8
-failure_octet fault.Length = 9
-failure_octet fault.Check = 10
-failure_octet fault.Stopped = 11
-failure_octet fault.NotAllowed = 12
-failure_octet fault.WrongDevice = 13
-failure_octet fault.Taken = 14
-failure_octet fault.Same = 15
-failure_octet fault.Exhausted = 16
-failure_octet fault.NoSet = 17
+failure_octet (fault.Isdu why) = isdu_octet why
+failure_octet (fault.Transfer why) = transfer_octet why
+failure_octet (fault.Permit why) = permit_octet why
+failure_octet (fault.Download why) = download_octet why
+failure_octet (fault.Storing why) = storing_octet why
 
 -- a status with no further detail (own)
 abbrev pub plain_status : ℕ → Status
 plain_status octet = record { status = octet; detail = 0; error = 0; additional = 0 }
 
+-- a failed exchange or transfer, with ErrorCode and AdditionalCode if a device has refused a request (own)
+abbrev pub transfer_status : TransferFault → Status
+transfer_status (transfer.Refused error additional) = record { status = 10; detail = 0; error = error; additional = additional }
+transfer_status failed = record { status = 10; detail = transfer_octet failed; error = 0; additional = 0 }
+
 -- a failure, with ErrorCode and AdditionalCode if a device has refused a request (own)
 abbrev pub failed_status : PortFault → Status
-failed_status (fault.Refused error additional) = record { status = 10; detail = 0; error = error; additional = additional }
+failed_status (fault.Transfer failed) = transfer_status failed
 failed_status failed = record { status = 10; detail = failure_octet failed; error = 0; additional = 0 }
 
 -- a status, as `struct iolm_status` (own)

@@ -1,13 +1,16 @@
 //! The answers, as they are written to structs of C.
 
 ghost use Rattle.std.specs.Prelude.{◌≡◌};
-ghost use Rattle.iol_c.specs.Shown.{failed_status, failure_octet, mismatch_octet, plain_status, set_struct, status_struct, view_struct};
+ghost use Rattle.iol_c.specs.Shown.{failed_status, mismatch_octet, plain_status, set_struct, status_struct, transfer_status, view_struct};
+ghost use Rattle.iol_c.specs.Shown.{failure_octet, isdu_octet, transfer_octet, permit_octet, download_octet, storing_octet};
 
 use crate::configs::config_struct;
 use crate::structs::{PortView, SetSize, Status};
+use iol_core::{DownloadFault, PermitFault};
 use iol_handed::{SetView, View};
-use iol_link::IdentFault;
-use iol_port::{PortFault, PortStatus};
+use iol_link::{IdentFault, IsduFault};
+use iol_port::{PortFault, PortStatus, StoringFault};
+use iol_transfer::TransferFault;
 
 /// Returns a status as C has it.
 pub(crate) fn status_struct(status: PortStatus) -> Status
@@ -48,13 +51,26 @@ fn failed_status(fault: PortFault) -> Status
     ensures { result ≡ failed_status fault }
 {
     match fault {
-        PortFault::Refused { error, additional } => Status {
+        PortFault::Transfer(fault) => transfer_status(fault),
+        fault => Status {
+            detail: failure_octet(fault),
+            ..plain_status(10)
+        },
+    }
+}
+
+// Returns a failed exchange or transfer, with ErrorCode and AdditionalCode if a device has refused a request.
+fn transfer_status(fault: TransferFault) -> Status
+    ensures { result ≡ transfer_status fault }
+{
+    match fault {
+        TransferFault::Refused { error, additional } => Status {
             error,
             additional,
             ..plain_status(10)
         },
         fault => Status {
-            detail: failure_octet(fault),
+            detail: transfer_octet(fault),
             ..plain_status(10)
         },
     }
@@ -77,24 +93,74 @@ fn failure_octet(fault: PortFault) -> u8
     ensures { result ≡ failure_octet fault }
 {
     match fault {
-        PortFault::Refused { .. } => 0,
-        PortFault::Unexpected => 1,
-        PortFault::Size => 2,
-        PortFault::List => 3,
-        PortFault::Busy => 4,
-        PortFault::Memory => 5,
-        PortFault::Empty => 6,
-        PortFault::Reserved => 7,
-        PortFault::WrongService => 8,
-        PortFault::Length => 9,
-        PortFault::Check => 10,
-        PortFault::Stopped => 11,
-        PortFault::NotAllowed => 12,
-        PortFault::WrongDevice => 13,
-        PortFault::Taken => 14,
-        PortFault::Same => 15,
-        PortFault::Exhausted => 16,
-        PortFault::NoSet => 17,
+        PortFault::Isdu(fault) => isdu_octet(fault),
+        PortFault::Transfer(fault) => transfer_octet(fault),
+        PortFault::Permit(fault) => permit_octet(fault),
+        PortFault::Download(fault) => download_octet(fault),
+        PortFault::Storing(fault) => storing_octet(fault),
+    }
+}
+
+// Returns the number for the fault of an exchange or a transfer.
+fn transfer_octet(fault: TransferFault) -> u8
+    ensures { result ≡ transfer_octet fault }
+{
+    match fault {
+        TransferFault::Refused { .. } => 0,
+        TransferFault::Unexpected => 1,
+        TransferFault::Size => 2,
+        TransferFault::List => 3,
+        TransferFault::Busy => 4,
+        TransferFault::Memory => 5,
+    }
+}
+
+// Returns the number for octets that are no answer.
+fn isdu_octet(fault: IsduFault) -> u8
+    ensures { result ≡ isdu_octet fault }
+{
+    match fault {
+        IsduFault::Empty => 6,
+        IsduFault::Reserved => 7,
+        IsduFault::WrongService => 8,
+        IsduFault::Length => 9,
+        IsduFault::Check => 10,
+    }
+}
+
+// Returns the number for why a port gets no permit to upload.
+fn permit_octet(fault: PermitFault) -> u8
+    ensures { result ≡ permit_octet fault }
+{
+    match fault {
+        PermitFault::Stopped => 11,
+        PermitFault::NotAllowed => 12,
+        PermitFault::WrongDevice => 13,
+        PermitFault::Taken => 14,
+    }
+}
+
+// Returns the number for why a port gets no permit to download.
+fn download_octet(fault: DownloadFault) -> u8
+    ensures { result ≡ download_octet fault }
+{
+    match fault {
+        DownloadFault::NotAllowed => 12,
+        DownloadFault::Empty => 17,
+        DownloadFault::WrongDevice => 13,
+        DownloadFault::Taken => 14,
+        DownloadFault::Same => 15,
+        DownloadFault::Memory => 5,
+    }
+}
+
+// Returns the number for why the set of a finished upload is not stored.
+fn storing_octet(fault: StoringFault) -> u8
+    ensures { result ≡ storing_octet fault }
+{
+    match fault {
+        StoringFault::Stopped => 11,
+        StoringFault::Exhausted => 16,
     }
 }
 

@@ -1,42 +1,95 @@
 //! The texts of faults, for which the program has names and words of its own.
 
-use iol_port::PortFault;
+use iol_core::{DownloadFault, PermitFault};
+use iol_link::IsduFault;
+use iol_port::{PortFault, StoringFault};
+use iol_transfer::TransferFault;
 use iol_types::{AddFault, CommandFault};
 use std::alloc::Global;
 use std::fmt;
 use std::process::Abort;
 
-const OF_PORTS: [(PortFault, &str); 18] = [
+const OF_PORTS: [(PortFault, &str); 23] = [
+    (PortFault::Isdu(IsduFault::Empty), "no octet"),
     (
-        PortFault::Refused {
+        PortFault::Isdu(IsduFault::Reserved),
+        "a reserved I-Service or length",
+    ),
+    (PortFault::Isdu(IsduFault::WrongService), "another service"),
+    (
+        PortFault::Isdu(IsduFault::Length),
+        "a wrong count of octets",
+    ),
+    (PortFault::Isdu(IsduFault::Check), "a wrong CHKPDU"),
+    (
+        PortFault::Transfer(TransferFault::Refused {
             error: 0x80,
             additional: 0x0C,
-        },
+        }),
         "refused by the device with 80 0C",
     ),
-    (PortFault::Unexpected, "an answer to something else"),
-    (PortFault::Size, "a parameter set of more than 4096 octets"),
-    (PortFault::List, "an index list that cannot be followed"),
-    (PortFault::Busy, "a device that stays busy"),
-    (PortFault::Memory, "out of memory"),
-    (PortFault::Empty, "an answer of no octet"),
     (
-        PortFault::Reserved,
-        "an answer with a reserved I-Service or length",
+        PortFault::Transfer(TransferFault::Unexpected),
+        "an answer to something else",
     ),
-    (PortFault::WrongService, "a message of another service"),
-    (PortFault::Length, "an answer with a wrong count of octets"),
-    (PortFault::Check, "an answer with a wrong CHKPDU"),
-    (PortFault::Stopped, "the master has stopped"),
-    (PortFault::NotAllowed, "the port has no parameter set"),
     (
-        PortFault::WrongDevice,
+        PortFault::Transfer(TransferFault::Size),
+        "a parameter set of more than 4096 octets",
+    ),
+    (
+        PortFault::Transfer(TransferFault::List),
+        "an index list that cannot be followed",
+    ),
+    (
+        PortFault::Transfer(TransferFault::Busy),
+        "a device that stays busy",
+    ),
+    (PortFault::Transfer(TransferFault::Memory), "out of memory"),
+    (
+        PortFault::Permit(PermitFault::Stopped),
+        "the master has stopped",
+    ),
+    (
+        PortFault::Permit(PermitFault::NotAllowed),
+        "the port stores no parameter set",
+    ),
+    (
+        PortFault::Permit(PermitFault::WrongDevice),
         "the port is configured for another device",
     ),
-    (PortFault::Taken, "the port has a permit"),
-    (PortFault::Same, "the device has the parameter set"),
-    (PortFault::Exhausted, "no number is left"),
-    (PortFault::NoSet, "no parameter set is stored for the port"),
+    (
+        PortFault::Permit(PermitFault::Taken),
+        "the port has a permit",
+    ),
+    (
+        PortFault::Download(DownloadFault::NotAllowed),
+        "the port has no parameter set to restore",
+    ),
+    (
+        PortFault::Download(DownloadFault::Empty),
+        "no parameter set is stored for the port",
+    ),
+    (
+        PortFault::Download(DownloadFault::WrongDevice),
+        "the port is configured for another device",
+    ),
+    (
+        PortFault::Download(DownloadFault::Taken),
+        "the port has a permit",
+    ),
+    (
+        PortFault::Download(DownloadFault::Same),
+        "the device has the parameter set",
+    ),
+    (PortFault::Download(DownloadFault::Memory), "out of memory"),
+    (
+        PortFault::Storing(StoringFault::Stopped),
+        "the master has stopped",
+    ),
+    (
+        PortFault::Storing(StoringFault::Exhausted),
+        "no number is left",
+    ),
 ];
 
 const OF_SETS: [(AddFault, &str); 5] = [

@@ -2,12 +2,13 @@
 //! (docs/FORMATS.md, "Texts").
 ghost use Rattle.std.specs.Prelude.{◌≡◌};
 ghost use Rattle.iol_core.specs.Telling.{refusal_of};
-ghost use Rattle.iol_port.specs.Telling.{failure_told};
-ghost use Rattle.iol_texts.specs.Texts.{command_name, refusal_name, mismatch_name, failure_name};
+ghost use Rattle.iol_port.specs.Telling.{isdu_told, transfer_told, permit_told, download_told, storing_told};
+ghost use Rattle.iol_texts.specs.Texts.{command_name, refusal_name, mismatch_name, failure_name, failure_text};
 
-use iol_core::SubmitFault;
-use iol_link::IdentFault;
-use iol_port::PortFault;
+use iol_core::{DownloadFault, PermitFault, SubmitFault};
+use iol_link::{IdentFault, IsduFault};
+use iol_port::StoringFault;
+use iol_transfer::TransferFault;
 use iol_types::CommandFault;
 
 /// The name of a refusal in the trace.
@@ -48,29 +49,66 @@ pub(crate) fn mismatch_name(fault: IdentFault) -> &'static str
     }
 }
 
-// The name of a port's fault in the trace.
-pub(crate) fn failure_name(fault: PortFault) -> &'static str
-    ensures { result.now ≡ failure_name (failure_told fault) }
+// The name in the trace of octets that are no answer. Nothing else is told of them, so the name is the whole text.
+pub(crate) fn isdu_name(fault: IsduFault) -> &'static str
+    ensures { result.now ≡ failure_text (isdu_told fault) }
 {
     match fault {
-        PortFault::Refused { .. } => "Refused",
-        PortFault::Unexpected => "Unexpected",
-        PortFault::Size => "Size",
-        PortFault::List => "List",
-        PortFault::Busy => "Busy",
-        PortFault::Memory => "Memory",
-        PortFault::Empty => "Empty",
-        PortFault::Reserved => "Reserved",
-        PortFault::WrongService => "WrongService",
-        PortFault::Length => "Length",
-        PortFault::Check => "Check",
-        PortFault::Stopped => "Stopped",
-        PortFault::NotAllowed => "NotAllowed",
-        PortFault::WrongDevice => "WrongDevice",
-        PortFault::Taken => "Taken",
-        PortFault::Same => "Same",
-        PortFault::Exhausted => "Exhausted",
-        // A download uses the same name.
-        PortFault::NoSet => "Empty",
+        IsduFault::Empty => "Empty",
+        IsduFault::Reserved => "Reserved",
+        IsduFault::WrongService => "WrongService",
+        IsduFault::Length => "Length",
+        IsduFault::Check => "Check",
+    }
+}
+
+// The name in the trace of the fault of an exchange or a transfer. The two octets of a refusal come after it.
+pub(crate) fn transfer_name(fault: TransferFault) -> &'static str
+    ensures { result.now ≡ failure_name (transfer_told fault) }
+{
+    match fault {
+        TransferFault::Refused { .. } => "Refused",
+        TransferFault::Unexpected => "Unexpected",
+        TransferFault::Size => "Size",
+        TransferFault::List => "List",
+        TransferFault::Busy => "Busy",
+        TransferFault::Memory => "Memory",
+    }
+}
+
+// The name in the trace of the reason why a port gets no permit to upload.
+pub(crate) fn permit_name(fault: PermitFault) -> &'static str
+    ensures { result.now ≡ failure_text (permit_told fault) }
+{
+    match fault {
+        PermitFault::Stopped => "Stopped",
+        PermitFault::NotAllowed => "NotAllowed",
+        PermitFault::WrongDevice => "WrongDevice",
+        PermitFault::Taken => "Taken",
+    }
+}
+
+// The name in the trace of the reason why a port gets no permit to download.
+pub(crate) fn download_name(fault: DownloadFault) -> &'static str
+    ensures { result.now ≡ failure_text (download_told fault) }
+{
+    match fault {
+        DownloadFault::NotAllowed => "NotAllowed",
+        // An answer of no octet has the same name.
+        DownloadFault::Empty => "Empty",
+        DownloadFault::WrongDevice => "WrongDevice",
+        DownloadFault::Taken => "Taken",
+        DownloadFault::Same => "Same",
+        DownloadFault::Memory => "Memory",
+    }
+}
+
+// The name in the trace of the reason why the set of a finished upload is not stored.
+pub(crate) fn storing_name(fault: StoringFault) -> &'static str
+    ensures { result.now ≡ failure_text (storing_told fault) }
+{
+    match fault {
+        StoringFault::Stopped => "Stopped",
+        StoringFault::Exhausted => "Exhausted",
     }
 }

@@ -1,7 +1,10 @@
 //! The words for the status of a port (docs/FORMATS.md, "Texts").
 
-use crate::names::{failure_name, mismatch_name};
+use crate::names::{
+    download_name, isdu_name, mismatch_name, permit_name, storing_name, transfer_name,
+};
 use iol_port::{PortFault, PortStatus};
+use iol_transfer::TransferFault;
 use std::fmt;
 
 /// The status of a port, in the words of a trace.
@@ -43,13 +46,35 @@ impl fmt::Display for FailureText {
 
     ghost output = { λ failure. Some (failure_text (failure_told failure.0)) };
 
+    fn fmt<W: fmt::Write>(&self, f: &mut fmt::Formatter<W>) -> fmt::Result {
+        match self.0 {
+            PortFault::Isdu(fault) => f.write_str(isdu_name(fault)),
+            PortFault::Transfer(fault) => write!(f, "{}", TransferText(fault)),
+            PortFault::Permit(fault) => f.write_str(permit_name(fault)),
+            PortFault::Download(fault) => f.write_str(download_name(fault)),
+            PortFault::Storing(fault) => f.write_str(storing_name(fault)),
+        }
+    }
+}
+
+// Why an exchange or a transfer of a port has failed, in words.
+#[derive(Drop)]
+struct TransferText(TransferFault);
+
+impl fmt::Display for TransferText {
+    ghost use Rattle.std.specs.Prelude.{Some};
+    ghost use Rattle.iol_port.specs.Telling.{transfer_told};
+    ghost use Rattle.iol_texts.specs.Texts.{failure_text};
+
+    ghost output = { λ failure. Some (failure_text (transfer_told failure.0)) };
+
     #[tactic(auto, using(std::proofs::lemmas::Fmt::hex_byte))]
     fn fmt<W: fmt::Write>(&self, f: &mut fmt::Formatter<W>) -> fmt::Result {
         match self.0 {
-            PortFault::Refused { error, additional } => {
+            TransferFault::Refused { error, additional } => {
                 write!(f, "Refused {error:02X} {additional:02X}")
             }
-            fault => f.write_str(failure_name(fault)),
+            fault => f.write_str(transfer_name(fault)),
         }
     }
 }
