@@ -49,7 +49,7 @@ IsCreateFault d g fault = Unit {0}
 
 -- the disk that a write returns, in the journal or by itself (own)
 abbrev pub left_disk : {D : Type 0} → Result (JournalView D) (WriteFault D) → D
-left_disk (Ok behind) = behind.disk
+left_disk (Ok next) = next.disk
 left_disk (Err (Refused back cause)) = back.disk
 left_disk (Err (Failed left fault)) = left
 
@@ -85,13 +85,13 @@ pub record MadeFirst (calls : List Call) (old new : Disk) : Type 0 where
 -- the calls were made in order: all of them, those before a refusal, or those up to one that failed, which was counted
 -- and whose fault is returned (own)
 abbrev pub MakesCalls : {D : Type 0} → (D → Disk) → List Call → Disk → Result (JournalView D) (WriteFault D) → Type 0
-MakesCalls disk calls old (Ok behind) = Made calls old (disk behind.disk)
+MakesCalls disk calls old (Ok next) = Made calls old (disk next.disk)
 MakesCalls disk calls old (Err (Refused back cause)) = MadeFirst calls old (disk back.disk)
 MakesCalls disk calls old (Err (Failed left fault)) = FailedIn calls fault old (disk left)
 
 -- a run after a write: the run with the command written; the run as it was, if the command is refused; and a run as it
 -- was on a disk that failed (own)
 abbrev pub LeavesRun : {D : Type 0} → (D → Disk) → Run → Run → Result (JournalView D) (WriteFault D) → Type 0
-LeavesRun disk before written (Ok behind) = IsRunAtRest disk written behind
+LeavesRun disk before written (Ok next) = IsRunAtRest disk written next
 LeavesRun disk before written (Err (Refused back cause)) = IsRunAtRest disk before back
 LeavesRun disk before written (Err (Failed left fault)) = IsRun (disk left) before

@@ -33,7 +33,7 @@ run_of number state written underway queued marks = record {
 
 -- commands are the first of the waiting ones (own)
 abbrev pub AreFirst : List CommandValue → List CommandValue → Type 0
-AreFirst commands waiting = (behind : List CommandValue) × (waiting ≡ commands ++ behind)
+AreFirst commands waiting = (later : List CommandValue) × (waiting ≡ commands ++ later)
 
 -- a flusher has a run of its journal, which began with a number and a state: of the accepted commands, some are published and the
 -- others wait; a batch that is given, underway or not yet published is the first of the waiting ones (own)
@@ -47,14 +47,14 @@ IsFlushing disk number state published waiting marks (Given journal batch) =
 IsFlushing disk number state published waiting marks (Checkpointing checkpoint batch) =
     AreFirst (values batch.commands.items) waiting × IsRunCheckpointing disk (run_of number state published [] waiting marks) checkpoint
 IsFlushing disk number state published waiting marks (Writing writing) =
-    (behind : List CommandValue) × (waiting ≡ writing.commands ++ behind)
-    × IsRunWriting disk (run_of number state published writing.commands behind marks) writing
+    (later : List CommandValue) × (waiting ≡ writing.commands ++ later)
+    × IsRunWriting disk (run_of number state published writing.commands later marks) writing
 IsFlushing disk number state published waiting marks (Publishing journal written) =
-    (behind : List CommandValue) × (waiting ≡ written.commands ++ behind)
-    × IsRunAtRest disk (run_of number state (published ++ written.commands) [] behind marks) journal
+    (later : List CommandValue) × (waiting ≡ written.commands ++ later)
+    × IsRunAtRest disk (run_of number state (published ++ written.commands) [] later marks) journal
 IsFlushing disk number state published waiting marks (Failed left fault) =
-    (underway behind : List CommandValue) × (waiting ≡ underway ++ behind)
-    × IsRun (disk left) (run_of number state published underway behind marks)
+    (underway later : List CommandValue) × (waiting ≡ underway ++ later)
+    × IsRun (disk left) (run_of number state published underway later marks)
 
 -- a batch follows a journal and fits an area (own)
 pub record FitsBatch (standing : Standing) (batch : Batch) : Type 0 where

@@ -4,4 +4,4 @@ use Rattle.iol_core.specs.Events.{Event, Stamp}
 
 -- for each event of a trace, this holds of the events before it and of the event (own)
 abbrev pub Everywhere : (List Stamp → Event → Type 0) → List Stamp → Type 0
-Everywhere Holds events = (before behind : List Stamp) (e : Stamp) → events ≡ before ++ e ∷ behind → Holds before e.event
+Everywhere Holds events = (before after : List Stamp) (e : Stamp) → events ≡ before ++ e ∷ after → Holds before e.event

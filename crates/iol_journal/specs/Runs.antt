@@ -76,7 +76,7 @@ with_commands r commands = record r { queued = r.queued ++ commands }
 
 -- a run of whose queued commands the first become the batch underway, and the others stay queued (own)
 abbrev pub with_batch_begun : Run → List CommandValue → List CommandValue → Run
-with_batch_begun r batch behind = record r { underway = batch; queued = behind }
+with_batch_begun r batch later = record r { underway = batch; queued = later }
 
 -- a run whose batch is written (own)
 abbrev pub with_batch_written : Run → Run

@@ -91,7 +91,7 @@ pub data Sent : Type 0 where
 -- after an answer (+) to what a download sends (own)
 abbrev pub sent_well : SetValue → Sends → Sent
 sent_well set Opening = GoesOn (record { set = set; sends = sends_after set Opening; busy = 0 })
-sent_well set (Parameter entry behind) = GoesOn (record { set = set; sends = sends_after set (Parameter entry behind); busy = 0 })
+sent_well set (Parameter entry others) = GoesOn (record { set = set; sends = sends_after set (Parameter entry others); busy = 0 })
 sent_well set Closing = Done
 
 -- after an answer to a request of a download (own)

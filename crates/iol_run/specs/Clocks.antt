@@ -4,5 +4,5 @@ use Rattle.iol_core.specs.Events.{Stamp}
 
 -- the clocks of events do not fall, from what the clock shows before them to what it shows after them (own)
 abbrev pub ClocksRise : ℕ → ℕ → List Stamp → Type 0
-ClocksRise before behind [] = before ≤ behind
-ClocksRise before behind (e ∷ events) = (before ≤ e.clock) × ClocksRise e.clock behind events
+ClocksRise before later [] = before ≤ later
+ClocksRise before later (e ∷ events) = (before ≤ e.clock) × ClocksRise e.clock later events

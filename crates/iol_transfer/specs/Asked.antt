@@ -29,7 +29,7 @@ pub data Asks : Type 0 where
   Start : Asks
   Size : Asks
   IndexList : (index subindex lists : ℕ) (keys : List Key) → Asks
-  Value : (entries : List Entry) (key : Key) (behind : List Key) → Asks
+  Value : (entries : List Entry) (key : Key) (rest : List Key) → Asks
   Checksum : (entries : List Entry) → Asks
 
 -- the request that is sent (standard, Data Storage object)
@@ -37,7 +37,7 @@ abbrev pub request_of : Asks → Request
 request_of Start = commanded UploadStart
 request_of Size = Read DATA_STORAGE DATA_STORAGE_SIZE
 request_of (IndexList index subindex lists keys) = Read index subindex
-request_of (Value entries key behind) = Read key.index key.subindex
+request_of (Value entries key rest) = Read key.index key.subindex
 request_of (Checksum entries) = Read DATA_STORAGE PARAMETER_CHECKSUM
 
 -- these exchanges read lists, the first at an address and each other at the Index that the one before names; the last names
@@ -79,7 +79,7 @@ abbrev pub IsAskedAfter : List Exchange → Asks → Type 0
 IsAskedAfter settled Start = settled ≡ []
 IsAskedAfter settled Size = settled ≡ done (commanded UploadStart) ∷ []
 IsAskedAfter settled (IndexList index subindex lists keys) = HasListed index subindex lists keys settled
-IsAskedAfter settled (Value entries key behind) = HasRead entries (key ∷ behind) settled
+IsAskedAfter settled (Value entries key rest) = HasRead entries (key ∷ rest) settled
 IsAskedAfter settled (Checksum entries) = HasRead entries [] settled
 
 -- after this conversation an upload asks for this, and was answered Device busy `busy` times in a row, fewer than 16 (own)
@@ -132,7 +132,7 @@ IsUnexpected asks answer =
 -- these octets declare, or lead to, a set of more than 4,096 octets (own)
 abbrev pub IsTooLarge : Asks → List ℕ → Type 0
 IsTooLarge Size octets = (length octets ≡ 4) × (MOST_SET_OCTETS < number_of octets)
-IsTooLarge (Value entries key behind) octets = MOST_SET_OCTETS < octets_of entries + ENTRY_HEAD_OCTETS + length octets
+IsTooLarge (Value entries key rest) octets = MOST_SET_OCTETS < octets_of entries + ENTRY_HEAD_OCTETS + length octets
 IsTooLarge _ octets = ⊥
 
 -- these octets are a list that cannot be followed: no list, or the sixteenth list and it names another (own)
@@ -145,7 +145,7 @@ IsBadList _ octets = ⊥
 -- these octets are kept: the keys of a list that has some, or a value that fits (own)
 abbrev pub IsToBeKept : Asks → List ℕ → Type 0
 IsToBeKept (IndexList index subindex lists keys) octets = IsTrue (begins_with_key octets)
-IsToBeKept (Value entries key behind) octets = octets_of entries + ENTRY_HEAD_OCTETS + length octets ≤ MOST_SET_OCTETS
+IsToBeKept (Value entries key rest) octets = octets_of entries + ENTRY_HEAD_OCTETS + length octets ≤ MOST_SET_OCTETS
 IsToBeKept _ octets = ⊥
 
 -- the octets of an answer fit a message: there are at most 232 (standard, ISDU)

@@ -67,7 +67,7 @@ pub record DownloadEndsIn (set : SetValue) (conversation : List Exchange) (answe
 -- (own)
 pub data Sends : Type 0 where
   Opening : Sends
-  Parameter : (entry : Entry) (behind : List Entry) → Sends
+  Parameter : (entry : Entry) (rest : List Entry) → Sends
   Closing : Sends
 
 -- a download in progress: its set, what it sends next, and how many times in a row that was answered Device busy (own)
@@ -83,7 +83,7 @@ begun_download set = record { set = set; sends = Opening; busy = 0 }
 -- the write of the first of these entries, or DS_DownloadEnd if there is none (own)
 abbrev pub writing : List Entry → Sends
 writing [] = Closing
-writing (entry ∷ behind) = Parameter entry behind
+writing (entry ∷ rest) = Parameter entry rest
 
 -- what a download in memory sends next (own)
 abbrev pub sends_of : List Entry → Progress → Sends
@@ -98,19 +98,19 @@ sender_of download =
 -- the request that a download sends next (standard, Data Storage object)
 abbrev pub sent_by : Sends → Request
 sent_by Opening = commanded DownloadStart
-sent_by (Parameter entry behind) = entry_written entry
+sent_by (Parameter entry rest) = entry_written entry
 sent_by Closing = commanded DownloadEnd
 
 -- the requests that follow the next one (own)
 abbrev pub behind_of : SetValue → Sends → List Request
 behind_of set Opening = writes_of set.entries
-behind_of set (Parameter entry behind) = writes_of behind
+behind_of set (Parameter entry rest) = writes_of rest
 behind_of set Closing = []
 
 -- what a download sends next after an answer (+) (own)
 abbrev pub sends_after : SetValue → Sends → Sends
 sends_after set Opening = writing set.entries
-sends_after set (Parameter entry behind) = writing behind
+sends_after set (Parameter entry rest) = writing rest
 sends_after set Closing = Closing
 
 -- the next request of a download, with an answer to it (own)

@@ -40,8 +40,8 @@ abbrev pub listing_of : List ℕ → Result Listing ListFault
 listing_of [] = Ok ([], next.End)
 listing_of (octet ∷ []) = Err Truncated
 listing_of (high ∷ low ∷ []) = at_index (index_of high low) (Ok ([], next.List (index_of high low)))
-listing_of (high ∷ low ∷ subindex ∷ behind) =
-    at_index (index_of high low) (listed_before (key_of high low subindex) (listing_of behind))
+listing_of (high ∷ low ∷ subindex ∷ rest) =
+    at_index (index_of high low) (listed_before (key_of high low subindex) (listing_of rest))
 
 -- these keys, each only at its first place (own)
 abbrev pub first_places : List Key → List Key
@@ -66,7 +66,7 @@ pub record AreReadKeys (keys : List Key) : Type 0 where
 
 -- these octets begin with an entry whose key is not reserved (own)
 abbrev pub begins_with_key : List ℕ → Bool
-begins_with_key (high ∷ low ∷ subindex ∷ behind) = not (is_reserved (key_of high low subindex))
+begins_with_key (high ∷ low ∷ subindex ∷ rest) = not (is_reserved (key_of high low subindex))
 begins_with_key _ = false
 
 -- the two octets of an Index, most significant octet first (standard, Data Storage object)

@@ -49,7 +49,7 @@ goes_on machine asks = More (record { vendor = machine.vendor; device = machine.
 -- with these entries read, the request for the next of the keys that are left, or for the checksum if none is left (own)
 abbrev pub reading : List Entry → List Key → Asks
 reading entries [] = Checksum entries
-reading entries (key ∷ behind) = Value entries key behind
+reading entries (key ∷ rest) = Value entries key rest
 
 -- the outcome after the declared size (own)
 abbrev pub after_size : Machine → List ℕ → Outcome
@@ -68,9 +68,9 @@ after_list machine lists keys (Ok (listed, next.List index)) =
 
 -- the outcome after a value (own)
 abbrev pub after_value : Machine → List Entry → Key → List Key → List ℕ → Outcome
-after_value machine entries key behind octets =
+after_value machine entries key rest octets =
     if is_some (add_fault entries key octets) then Fault fault.Size
-    else goes_on machine (reading (entries ++ (key, octets) ∷ []) behind)
+    else goes_on machine (reading (entries ++ (key, octets) ∷ []) rest)
 
 -- the outcome after the checksum (own)
 abbrev pub after_checksum : Machine → List Entry → List ℕ → Outcome
@@ -84,7 +84,7 @@ abbrev pub after_read : Machine → Asks → List ℕ → Outcome
 after_read machine Start octets = Fault fault.Unexpected
 after_read machine Size octets = after_size machine octets
 after_read machine (IndexList index subindex lists keys) octets = after_list machine lists keys (reading_of octets)
-after_read machine (Value entries key behind) octets = after_value machine entries key behind octets
+after_read machine (Value entries key rest) octets = after_value machine entries key rest octets
 after_read machine (Checksum entries) octets = after_checksum machine entries octets
 
 -- the outcome after a write (own)
