@@ -12,7 +12,7 @@ from fuzz_judge import Said
 STOPPED = "stopped"
 
 
-def behind_stop(lines, told):
+def after_stop(lines, told):
     """The lines with another state behind the stop."""
     return [*lines[: lines.index(STOPPED) + 1], *told]
 
@@ -56,7 +56,7 @@ def keeps_a_set_over_a_configure(lines, read):
         if command.config and held.parameters:
             kept = state[command.port - 1]._replace(parameters=held.parameters, recorded=held.recorded)
             state = (*state[: command.port - 1], kept, *state[command.port :])
-    return None if state == read.states[number] else behind_stop(lines, words.recovered_lines(number, state))
+    return None if state == read.states[number] else after_stop(lines, words.recovered_lines(number, state))
 
 
 def copies_the_previous_set_over_the_present_one(lines, read):
@@ -66,24 +66,24 @@ def copies_the_previous_set_over_the_present_one(lines, read):
         held = state[command.port - 1]
         if command.is_rollback:
             state = (*state[: command.port - 1], held._replace(previous=held.stored()), *state[command.port :])
-    return None if state == read.states[number] else behind_stop(lines, words.recovered_lines(number, state))
+    return None if state == read.states[number] else after_stop(lines, words.recovered_lines(number, state))
 
 
 def recovers_less_than_was_acknowledged(lines, read):
     number = read.acknowledged - 1
-    return behind_stop(lines, words.recovered_lines(number, read.states[number])) if number >= 0 else None
+    return after_stop(lines, words.recovered_lines(number, read.states[number])) if number >= 0 else None
 
 
 def recovers_what_was_never_accepted(lines, read):
     state = words.state_after(read.states[-1], words.Command(1, words.Config(1, 3, 500, 43981)))
-    return behind_stop(lines, words.recovered_lines(len(read.commands) + 1, state))
+    return after_stop(lines, words.recovered_lines(len(read.commands) + 1, state))
 
 
 def recovers_a_batch_that_is_not_written(lines, read):
     number = read.acknowledged + 1
     if not any(line.startswith("disk ") for line in lines) or recovered_number(lines) == number or number > len(read.commands):
         return None
-    return behind_stop(lines, words.recovered_lines(number, read.states[number]))
+    return after_stop(lines, words.recovered_lines(number, read.states[number]))
 
 
 def shows_a_set_that_was_not_uploaded_whole(lines, read):
@@ -103,7 +103,7 @@ def shows_a_set_that_was_not_uploaded_whole(lines, read):
                 found = words.ParameterSet(*state.config[2:4], 0, tuple(values))
                 shown = state._replace(parameters=found, recorded=state.config)
                 others = read.states[number]
-                return behind_stop(lines, words.recovered_lines(number, (*others[: port - 1], shown, *others[port:])))
+                return after_stop(lines, words.recovered_lines(number, (*others[: port - 1], shown, *others[port:])))
     return None
 
 
@@ -114,7 +114,7 @@ def stores_a_set_that_was_not_uploaded_whole(lines, read):
     return [*lines[: place - 3], *lines[place - 1 :]] if is_read else None
 
 
-def stores_a_set_behind_a_configure(lines, read):
+def stores_a_set_after_a_configure(lines, read):
     """A Configure that was accepted behind the Store of its port is told before it."""
     place = first_place(lines, r"port \d+ storing")
     number = int(lines[place - 1].split()[1]) if place else len(read.commands)
@@ -237,7 +237,7 @@ OF_LINES = {
     "recovers a batch whose gate is not written": (recovers_a_batch_that_is_not_written, "recovery"),
     "shows a set of an upload that did not finish": (shows_a_set_that_was_not_uploaded_whole, "states"),
     "stores a set of an upload that did not finish": (stores_a_set_that_was_not_uploaded_whole, "sets"),
-    "stores a set behind a Configure of its port": (stores_a_set_behind_a_configure, "sets"),
+    "stores a set behind a Configure of its port": (stores_a_set_after_a_configure, "sets"),
     "sends a set to another device": (sends_a_set_to_another_device, "connections"),
     "swaps two entries of a download": (swaps_two_entries, "downloads"),
     "sends another value in a download": (sends_another_value, "downloads"),

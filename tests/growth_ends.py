@@ -118,12 +118,12 @@ class Subject:
             with open(f"{room}/{name}", "wb") as file:
                 file.write(octets)
 
-    def run(self, growth=0, all_behind=False):
+    def run(self, growth=0, all_after=False):
         """What is said where this request for memory is refused, also with all behind it, or none."""
         with tempfile.TemporaryDirectory() as room:
             self.lay_out(room)
             refused = {"REFUSE_GROWTH": str(growth), "REFUSE_MET": f"{room}/met", "LD_PRELOAD": self.shim if growth else ""}
-            if all_behind:
+            if all_after:
                 refused["REFUSE_ALL"] = "1"
             told = self.told_in(room, {**os.environ, **refused})
             image = octets_of(f"{room}/a.img") if os.path.exists(f"{room}/a.img") else None

@@ -290,7 +290,7 @@ class Mutant(made.Image):
             return made.store(place + 1, port.revision, self.a_set(*port.configuration[2:4]))
         return made.configure(place + 1, self.a_configuration(), reader.version, self.a_label())
 
-    def batch_behind(self):
+    def batch_after(self):
         """A batch behind the last one."""
         head = self.head()
         if not head:
@@ -405,7 +405,7 @@ class Mutant(made.Image):
 
 # The changes, and how often each is made beside the others.
 CHANGES = {
-    Mutant.field: 40, Mutant.gate: 6, Mutant.header: 6, Mutant.batch_behind: 20, Mutant.slot_moved: 8, Mutant.record_of_port: 10,
+    Mutant.field: 40, Mutant.gate: 6, Mutant.header: 6, Mutant.batch_after: 20, Mutant.slot_moved: 8, Mutant.record_of_port: 10,
     Mutant.swapped: 4, Mutant.foreign_sector: 6, Mutant.areas: 4, Mutant.foreign_area: 6, Mutant.octet: 3, Mutant.noise: 3,
     Mutant.cut: 2, Mutant.lengthened: 3,
 }  # fmt: skip

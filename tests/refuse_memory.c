@@ -68,7 +68,7 @@ __attribute__((constructor)) static void begin(void) {
 }
 
 // Makes a copy, in which this request is refused: 1 in the copy, and 0 behind its end. A copy shares the places in open files.
-static int is_copy(int with_all_behind) {
+static int is_copy(int with_all_after) {
     long places[FILES];
     for (int file = 0; file < FILES; file++) places[file] = lseek(file, 0, HERE);
     int copy = fork();
@@ -78,7 +78,7 @@ static int is_copy(int with_all_behind) {
         dup2(copies_errors, ERRORS);
         refuses_each = 0;
         refused = made;
-        refuses_all = with_all_behind;
+        refuses_all = with_all_after;
         return 1;
     }
     int status = -1;

@@ -57,7 +57,7 @@ impl Entry {
         let name = self.name.of(text);
         let keys = name.trim_start_matches('[').trim_end_matches(']');
         if self.role != Role::Script && keys.len() != name.len() {
-            before_dot(behind_dot(keys))
+            before_dot(after_dot(keys))
         } else {
             before_dot(keys)
         }
@@ -71,7 +71,7 @@ fn before_dot(keys: &str) -> &str {
     }
 }
 
-fn behind_dot(keys: &str) -> &str {
+fn after_dot(keys: &str) -> &str {
     match keys.split_once('.') {
         Some((_, below)) => below,
         None => keys,

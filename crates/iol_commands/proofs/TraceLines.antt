@@ -6,7 +6,7 @@ use Rattle.std.proofs.lemmas.List.{take_more, map-append}
 use Rattle.iol_engine.specs.Events.{event_of}
 use Rattle.iol_run.specs.declared.run.Stamped.{Stamped}
 use Rattle.iol_core.specs.Events.{Event}
-use Rattle.iol_commands.specs.Lines.{lost_in, lines_behind, lines_from, lines_of, events_of}
+use Rattle.iol_commands.specs.Lines.{lost_in, lines_after, lines_from, lines_of, events_of}
 
 -- the port whose device the last of the events reports as lost
 abbrev pub lost_after : Option ℕ → List Event → Option ℕ
@@ -14,11 +14,11 @@ lost_after lost [] = lost
 lost_after lost (event ∷ events) = lost_after (lost_in event) events
 
 lines_more : (lost : Option ℕ) (events : List Event) (event : Event)
-    → lines_from lost (events ++ event ∷ []) ≡ lines_from lost events ++ lines_behind (lost_after lost events) event
-lines_more lost [] event = append-nil (lines_behind lost event)
+    → lines_from lost (events ++ event ∷ []) ≡ lines_from lost events ++ lines_after (lost_after lost events) event
+lines_more lost [] event = append-nil (lines_after lost event)
 lines_more lost (e ∷ events) event =
-    ap (λ (rest : List ℕ). lines_behind lost e ++ rest) (lines_more (lost_in e) events event)
-    ∙ sym (append_assoc (lines_behind lost e) (lines_from (lost_in e) events) (lines_behind (lost_after (lost_in e) events) event))
+    ap (λ (rest : List ℕ). lines_after lost e ++ rest) (lines_more (lost_in e) events event)
+    ∙ sym (append_assoc (lines_after lost e) (lines_from (lost_in e) events) (lines_after (lost_after (lost_in e) events) event))
 
 after_more : (lost : Option ℕ) (events : List Event) (event : Event) → lost_after lost (events ++ event ∷ []) ≡ lost_in event
 after_more lost [] event = refl
@@ -33,9 +33,9 @@ next_events stamped i item within is =
 
 pub lines_next : (stamped : List Stamped) (i : ℕ) (item : Stamped) (lost : Option ℕ) → i < length stamped → get_or stamped i item ≡ item
     → lost ≡ lost_after None (events_of (take i stamped))
-    → lines_of (events_of (take i stamped)) ++ lines_behind lost (event_of item.event) ≡ lines_of (events_of (take (i + 1) stamped))
+    → lines_of (events_of (take i stamped)) ++ lines_after lost (event_of item.event) ≡ lines_of (events_of (take (i + 1) stamped))
 lines_next stamped i item lost within is at =
-    ap (λ (l : Option ℕ). lines_of (events_of (take i stamped)) ++ lines_behind l (event_of item.event)) at
+    ap (λ (l : Option ℕ). lines_of (events_of (take i stamped)) ++ lines_after l (event_of item.event)) at
     ∙ sym (ap lines_of (next_events stamped i item within is) ∙ lines_more None (events_of (take i stamped)) (event_of item.event))
 
 pub lost_next : (stamped : List Stamped) (i : ℕ) (item : Stamped) → i < length stamped → get_or stamped i item ≡ item

@@ -39,13 +39,13 @@ is_said (Changed port trace.Lost) (Some lost) = lost == port
 is_said event lost = false
 
 -- the lines of an event after another, which may have reported a loss: the loss is not printed twice (format, Texts)
-abbrev pub lines_behind : Option ℕ → Event → List ℕ
-lines_behind lost event = if is_said event lost then [] else event_text event
+abbrev pub lines_after : Option ℕ → Event → List ℕ
+lines_after lost event = if is_said event lost then [] else event_text event
 
 -- the lines of events, the first of which comes after another (format, Texts)
 abbrev pub lines_from : Option ℕ → List Event → List ℕ
 lines_from lost [] = []
-lines_from lost (event ∷ events) = lines_behind lost event ++ lines_from (lost_in event) events
+lines_from lost (event ∷ events) = lines_after lost event ++ lines_from (lost_in event) events
 
 -- the lines of the events of a trace (format, Texts)
 abbrev pub lines_of : List Event → List ℕ

@@ -2,7 +2,7 @@
 ghost use Rattle.std.specs.Prelude.{◌≡◌};
 ghost use Rattle.std.specs.Fmt.{WritesOnOk};
 ghost use Rattle.iol_engine.specs.Events.{event_of};
-ghost use Rattle.iol_commands.specs.Lines.{lost_in, is_said, lines_behind, lines_of, events_of};
+ghost use Rattle.iol_commands.specs.Lines.{lost_in, is_said, lines_after, lines_of, events_of};
 
 use crate::event_text::write_event;
 use crate::run::Report;
@@ -42,7 +42,7 @@ fn write_lines<W: fmt::Write>(
     event: &Event,
     lost: Option<PortId>,
 ) -> fmt::Result
-    ensures { WritesOnOk W.write_str_gives f.old result (lines_behind lost (event_of event.now)) f.new }
+    ensures { WritesOnOk W.write_str_gives f.old result (lines_after lost (event_of event.now)) f.new }
 {
     if is_said_loss(event, lost) {
         Ok(())

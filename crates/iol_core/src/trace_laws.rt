@@ -14,12 +14,12 @@ ghost use Rattle.iol_core.specs.CrashPrefix.{CrashPrefix, marks_of};
 use iol_link::DeviceLink;
 
 /// Commands accepted in later events come after those accepted before.
-pub fn accepts_behind()
+pub fn accepts_after()
     ensures { (events more : List Stamp) → accepted (events ++ more) ≡ accepted events ++ accepted more }
 {}
 
 /// How far commands are acknowledged after more events.
-pub fn acknowledges_behind()
+pub fn acknowledges_after()
     ensures { (first : ℕ) (events more : List Stamp) → acked first (events ++ more) ≡ acked (acked first events) more }
 {}
 

@@ -67,9 +67,9 @@ fails_early calls (part ∷ parts) {told = told} {old = old} {new = new} failed 
     fails_early (calls ++ part) parts (failed_first calls part told old new failed)
 
 -- a part failed after calls that were made
-pub fails_behind : (calls part : List Call) (parts : List (List Call)) {told : DiskFault} {old between new : Disk} → Made calls old between
+pub fails_after : (calls part : List Call) (parts : List (List Call)) {told : DiskFault} {old between new : Disk} → Made calls old between
     → FailedIn part told between new → FailedIn (followed (calls ++ part) parts) told old new
-fails_behind calls part parts {told = told} {old = old} {between = between} {new = new} made failed =
+fails_after calls part parts {told = told} {old = old} {between = between} {new = new} made failed =
     fails_early (calls ++ part) parts (failed_later calls part told old between new made failed)
 
 -- a row of calls, and those after it

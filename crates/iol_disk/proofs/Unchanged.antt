@@ -18,5 +18,5 @@ same-then old mid new first second = record {
 }
 
 -- a fault after calls that counted none
-pub failed_behind : (old mid new : Disk) → mid.failures ≡ old.failures → HasFailed mid new → HasFailed old new
-failed_behind old mid new quiet failed = subst (λ (n : ℕ). (n < new.failures) ⊎ (2 ^ 64 - 1 ≤ new.failures)) quiet failed
+pub failed_after : (old mid new : Disk) → mid.failures ≡ old.failures → HasFailed mid new → HasFailed old new
+failed_after old mid new quiet failed = subst (λ (n : ℕ). (n < new.failures) ⊎ (2 ^ 64 - 1 ≤ new.failures)) quiet failed

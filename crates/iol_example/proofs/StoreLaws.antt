@@ -72,11 +72,11 @@ or_after old new number state commands leaves =
     weaker old new (KeptMeans old.sectors number state) (KeptEither old.sectors number state commands) leaves (λ h image kept. inl kept)
 
 -- a batch after a checkpoint
-pub batch_behind : (start old begun new : Disk) (number n : ℕ) (state t : State) (commands others : List CommandValue)
+pub batch_after : (start old begun new : Disk) (number n : ℕ) (state t : State) (commands others : List CommandValue)
     → begun ≡ old → n ≡ number → t ≡ state → others ≡ commands
     → LeavesOnly start old (KeptMeans start.sectors number state)
     → LeavesOnly begun new (KeptEither begun.sectors n t others) → LeavesOnly start new (KeptEither start.sectors number state commands)
-batch_behind start old begun new number n state t commands others same same_number same_state same_commands freed written =
+batch_after start old begun new number n state t commands others same same_number same_state same_commands freed written =
     then_more start old new (λ k. KeptEither k number state commands) (or_after start old number state commands freed)
     (rw (← same, ← same_number, ← same_state, ← same_commands) written)
 

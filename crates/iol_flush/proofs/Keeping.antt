@@ -151,7 +151,7 @@ pub rests_still : {D : Type 0} (disk : D → Disk) (j back : JournalView D) → 
 rests_still {D} disk j back same rest = subst (λ (x : JournalView D). Rests disk x) (sym same) rest
 
 -- after a checkpoint none is paused
-pub rests_behind : {D : Type 0} (disk : D → Disk) (j : JournalView D) → IsAtRest (disk j.disk) j.standing j.idle → j.begun ≡ None
+pub rests_after : {D : Type 0} (disk : D → Disk) (j : JournalView D) → IsAtRest (disk j.disk) j.standing j.idle → j.begun ≡ None
     → Rests disk j
-rests_behind disk j rest none =
+rests_after disk j rest none =
     (rest, subst (λ (begun : Option BegunView). IsPaused (disk j.disk) j.standing begun) (sym none) tt)

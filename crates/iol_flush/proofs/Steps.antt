@@ -16,7 +16,7 @@ use Rattle.iol_journal.specs.CheckpointViews.{CheckpointingView, begun_in, check
 use Rattle.iol_journal.specs.Checkpointing.{IsCheckpointMoved, IsCheckpointDone}
 use Rattle.iol_journal.specs.Pauses.{calls_of}
 use Rattle.iol_journal.specs.Journals.{JournalView, WritingView, calls_left, writing_of}
-use Rattle.iol_journal.specs.Planned.{LeadsTo, written_behind}
+use Rattle.iol_journal.specs.Planned.{LeadsTo, written_after}
 use Rattle.iol_journal.specs.Body.{values}
 use Rattle.iol_journal.specs.Standings.{with_batch}
 use Rattle.iol_journal.specs.Meaning.{Standing}
@@ -25,7 +25,7 @@ use Rattle.iol_journal.specs.declared.batch.Batch.{Batch}
 use Rattle.iol_journal.specs.declared.refusal.BeginCause.{BeginCause}
 use Rattle.iol_journal.specs.declared.refusal.BeginCause.TheVariants.{TooLarge, NeedsCheckpoint, Misfit}
 use Rattle.iol_flush.specs.Stages.{is_due, disk_of, next_calls, calls_owed, failure_of, paused_calls}
-use Rattle.iol_flush.specs.Stages.{HasHistory, StandsBehind, IsInStep}
+use Rattle.iol_flush.specs.Stages.{HasHistory, StandsAfter, IsInStep}
 use Rattle.iol_flush.specs.Steps.{HasMadeOfBatch, HasBegun, HasMadeOfCheckpoint, HasMade, HasAdvanced, IsLeftPaused, IsDiskStep}
 use Rattle.iol_flush.specs.declared.need.Need.TheVariants as need
 use Rattle.iol_flush.specs.declared.fault.FlushFault.{FlushFault}
@@ -138,8 +138,8 @@ ended_step disk c j is made = (
 
 -- a journal that is at the end of a list is, after a batch, at the end of the list with the batch
 with_more : (start : Start) (published commands : List CommandValue) (s t : Standing) (h i : History) → t ≡ with_batch s commands → i
-    ≡ written_behind h commands
-    → StandsBehind start published s h → StandsBehind start (published ++ commands) t i
+    ≡ written_after h commands
+    → StandsAfter start published s h → StandsAfter start (published ++ commands) t i
 with_more start published commands s t h i standing history was = record {
   history_is = record {
     first = ap (λ h. h.first) history ∙ was.history_is.first;
@@ -153,17 +153,17 @@ with_more start published commands s t h i standing history was = record {
 
 -- the published list stays in step
 same_in_step : (start : Start) (published : List CommandValue) (s t : Standing) (h i : History) → t ≡ s → i ≡ h
-    → StandsBehind start published s h → StandsBehind start published t i
+    → StandsAfter start published s h → StandsAfter start published t i
 same_in_step start published s t h i standing history was =
-    subst (λ (u : Standing). StandsBehind start published u i) (sym standing)
-    (subst (λ (k : History). StandsBehind start published s k) (sym history) was)
+    subst (λ (u : Standing). StandsAfter start published u i) (sym standing)
+    (subst (λ (k : History). StandsAfter start published s k) (sym history) was)
 
 written_in_step : {D : Type 0} (start : Start) (published : List CommandValue) (w : WritingView D) (new : FlushStage D)
-    → HasMadeOfBatch w new → StandsBehind start published w.standing w.history → IsInStep start new published
+    → HasMadeOfBatch w new → StandsAfter start published w.standing w.history → IsInStep start new published
 written_in_step start published w (Writing v) has was =
     same_in_step start published w.standing v.standing w.history v.history has.standing has.history was
 written_in_step start published w (Publishing j written) has was = (
-  subst (λ (cs : List CommandValue). StandsBehind start (published ++ cs) j.standing j.history) (sym has.commands)
+  subst (λ (cs : List CommandValue). StandsAfter start (published ++ cs) j.standing j.history) (sym has.commands)
       (with_more start published w.commands w.standing j.standing w.history j.history has.standing has.history was),
   has.first ∙ ap (λ (n : ℕ). n + 1) was.number,
 )
@@ -175,7 +175,7 @@ written_in_step start published w (Failed d f) has was = absurd has
 
 -- after a checkpoint the journal is at the same number and state
 done_in_step : {D : Type 0} (start : Start) (published : List CommandValue) (c : CheckpointingView D) (j : JournalView D)
-    → IsCheckpointDone c j → StandsBehind start published c.standing c.history → StandsBehind start published j.standing j.history
+    → IsCheckpointDone c j → StandsAfter start published c.standing c.history → StandsAfter start published j.standing j.history
 done_in_step start published c j is was = record {
   history_is = subst (HasHistory start published) (sym is.history) was.history_is;
   number = is.number ∙ was.number;
@@ -184,7 +184,7 @@ done_in_step start published c j is was = record {
 
 checkpointed_in_step : {D : Type 0} (start : Start) (published : List CommandValue) (c : CheckpointingView D) (batch : Batch)
     (new : FlushStage D)
-    → HasMadeOfCheckpoint c batch new → StandsBehind start published c.standing c.history → IsInStep start new published
+    → HasMadeOfCheckpoint c batch new → StandsAfter start published c.standing c.history → IsInStep start new published
 checkpointed_in_step start published c batch (Checkpointing d kept) has was =
     same_in_step start published c.standing d.standing c.history d.history has.0.standing has.0.history was
 checkpointed_in_step start published c batch (Given j kept) has was = done_in_step start published c j has.0 was
@@ -195,7 +195,7 @@ checkpointed_in_step start published c batch (Publishing j written) has was = ab
 checkpointed_in_step start published c batch (Failed d f) has was = absurd has
 
 advanced_in_step : {D : Type 0} (start : Start) (published : List CommandValue) (c : CheckpointingView D) (new : FlushStage D)
-    → HasAdvanced c new → StandsBehind start published c.standing c.history → IsInStep start new published
+    → HasAdvanced c new → StandsAfter start published c.standing c.history → IsInStep start new published
 advanced_in_step start published c (Resting j) (inl is) was = done_in_step start published c j is was
 advanced_in_step {D} start published c (Resting j) (inr (more, moved, may, is)) was =
     same_in_step start published c.standing j.standing c.history j.history
@@ -210,7 +210,7 @@ advanced_in_step start published c (Failed d f) is was = absurd is
 
 begun_in_step : {D : Type 0} (start : Start) (published : List CommandValue) (full : Bool) (j : JournalView D) (batch : Batch)
     (new : FlushStage D)
-    → HasBegun full j batch new → StandsBehind start published j.standing j.history → IsInStep start new published
+    → HasBegun full j batch new → StandsAfter start published j.standing j.history → IsInStep start new published
 begun_in_step start published true j batch new has was = checkpointed_in_step start published (checkpoint_of j) batch new has.1 was
 begun_in_step start published false j batch new has was =
     written_in_step start published (writing_of j (values batch.commands.items)) new has.1 was
@@ -249,9 +249,9 @@ stays_in_step {D} disk start published old new (Err fault.Misfit) step was =
     subst (λ (s : FlushStage D). IsInStep start s published) (sym step.1) was
 
 -- what a journal has done leads to its number and state
-pub stands_behind : (start : Start) (commands : List CommandValue) (s : Standing) (h : History) → HasHistory start commands h → LeadsTo s h
-    → StandsBehind start commands s h
-stands_behind start commands s h has leads = record {
+pub stands_after : (start : Start) (commands : List CommandValue) (s : Standing) (h : History) → HasHistory start commands h → LeadsTo s h
+    → StandsAfter start commands s h
+stands_after start commands s h has leads = record {
   history_is = has;
   number = leads.number
       ∙ (ap (λ (n : ℕ). n + length h.commands) has.first ∙ ap (λ (cs : List CommandValue). start.number + length cs) has.list);

@@ -111,20 +111,20 @@ pub record HasHistory (start : Start) (commands : List CommandValue) (history : 
   pub list : history.commands ≡ commands
 
 -- a journal has written this list from the front's start on, and is at the number and state after it (own)
-pub record StandsBehind (start : Start) (commands : List CommandValue) (standing : Standing) (history : History) : Type 0 where
+pub record StandsAfter (start : Start) (commands : List CommandValue) (standing : Standing) (history : History) : Type 0 where
   pub history_is : HasHistory start commands history
   pub number : standing.number ≡ start.number + length commands
   pub state : standing.state ≡ after start.state commands
 
 -- the journal's list is the published list, followed by the batch that is durable and not yet published (own)
 abbrev pub IsInStep : {D : Type 0} → Start → FlushStage D → List CommandValue → Type 0
-IsInStep start (Resting journal) published = StandsBehind start published journal.standing journal.history
-IsInStep start (Opening checkpoint) published = StandsBehind start published checkpoint.standing checkpoint.history
-IsInStep start (Given journal batch) published = StandsBehind start published journal.standing journal.history
-IsInStep start (Checkpointing checkpoint batch) published = StandsBehind start published checkpoint.standing checkpoint.history
-IsInStep start (Writing writing) published = StandsBehind start published writing.standing writing.history
+IsInStep start (Resting journal) published = StandsAfter start published journal.standing journal.history
+IsInStep start (Opening checkpoint) published = StandsAfter start published checkpoint.standing checkpoint.history
+IsInStep start (Given journal batch) published = StandsAfter start published journal.standing journal.history
+IsInStep start (Checkpointing checkpoint batch) published = StandsAfter start published checkpoint.standing checkpoint.history
+IsInStep start (Writing writing) published = StandsAfter start published writing.standing writing.history
 IsInStep start (Publishing journal written) published =
-    StandsBehind start (published ++ written.commands) journal.standing journal.history
+    StandsAfter start (published ++ written.commands) journal.standing journal.history
     × (written.first ≡ start.number + length published + 1)
 IsInStep start (Failed disk fault) published = Unit {0}
 

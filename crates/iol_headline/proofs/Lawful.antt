@@ -45,9 +45,9 @@ acked_rises last (e ∷ events) rise =
     omega (arith, one, rest)
 
 -- numbers do not fall in the second part of a trace, nor in its first
-rise_behind : (last : ℕ) (events more : List Stamp) → AcksRise last (events ++ more) → AcksRise (acked last events) more
-rise_behind last [] more rise = rise
-rise_behind last (e ∷ events) more rise = rise_behind (acked_by last e.event) events more rise.1
+rise_after : (last : ℕ) (events more : List Stamp) → AcksRise last (events ++ more) → AcksRise (acked last events) more
+rise_after last [] more rise = rise
+rise_after last (e ∷ events) more rise = rise_after (acked_by last e.event) events more rise.1
 
 rise_before : (last : ℕ) (events more : List Stamp) → AcksRise last (events ++ more) → AcksRise last events
 rise_before last [] more rise = tt
@@ -58,7 +58,7 @@ still_acked : (first number : ℕ) (events : List Stamp) → AcksRise first even
     → number ≤ acked first events
 still_acked first number events rise was =
     let more = acked_rises (acked first was.upto) was.more
-    (rise_behind first was.upto was.more (subst (λ (es : List Stamp). AcksRise first es) was.split rise)) in
+    (rise_after first was.upto was.more (subst (λ (es : List Stamp). AcksRise first es) was.split rise)) in
     let same = ap (acked first) was.split ∙ acked-append first was.upto was.more in
     let enough = was.enough in
     omega (arith, more, same, enough)

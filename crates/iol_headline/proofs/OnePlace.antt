@@ -51,9 +51,9 @@ pub each_at : {A : Type 0} (Holds : A → Type 0) (front behind : List A) (x : A
 each_at Holds [] behind x each = each.0
 each_at Holds (y ∷ front) behind x each = each_at Holds front behind x each.1
 
-pub each_behind : {A : Type 0} (Holds : A → Type 0) (front behind : List A) → Each Holds (front ++ behind) → Each Holds behind
-each_behind Holds [] behind each = each
-each_behind Holds (y ∷ front) behind each = each_behind Holds front behind each.1
+pub each_after : {A : Type 0} (Holds : A → Type 0) (front behind : List A) → Each Holds (front ++ behind) → Each Holds behind
+each_after Holds [] behind each = each
+each_after Holds (y ∷ front) behind each = each_after Holds front behind each.1
 
 -- ---- one place
 
@@ -131,7 +131,7 @@ none_marked port (e ∷ events) each = (
   (λ is.
       (subst (Each (λ d. TellsStatus port d → ⊥)) (ap (λ d. own_in port d ++ own port events) is.1
       ∙ ap (λ ds. ds ++ own port events) (at_own port (Changed port is.0))) each).0 (is.0, refl)),
-  none_marked port events (each_behind (λ d. TellsStatus port d → ⊥) (own_in port e.event) (own port events) each),
+  none_marked port events (each_after (λ d. TellsStatus port d → ⊥) (own_in port e.event) (own port events) each),
 )
 
 -- ---- one conversation
@@ -169,5 +169,5 @@ pub settled_each : (Holds : Exchange → Type 0) (settled conversation : List Ex
 settled_each Holds [] conversation follows each = tt
 settled_each Holds (exchange ∷ settled) conversation follows each =
     let there = subst (Each Holds) follows.3 each in
-    let at = each_behind Holds (busy_times follows.0 exchange.request) (exchange ∷ follows.1) there in
+    let at = each_after Holds (busy_times follows.0 exchange.request) (exchange ∷ follows.1) there in
     (at.0, settled_each Holds settled follows.1 follows.4 at.1)

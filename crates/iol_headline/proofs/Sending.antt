@@ -17,7 +17,7 @@ use Rattle.iol_link.specs.declared.faults.IsduFault.{IsduFault}
 use Rattle.iol_link.specs.declared.messages.Request.{Request}
 use Rattle.std.specs.Prelude.{Result}
 use Rattle.iol_transfer.specs.Asked.{Asks, Start, Size, IndexList, Value, Checksum, request_of as asked_by}
-use Rattle.iol_transfer.specs.Download.{Sender, IsDownloading, IsSending, sent_by, behind_of, entry_written, writes_of}
+use Rattle.iol_transfer.specs.Download.{Sender, IsDownloading, IsSending, sent_by, later_writes, entry_written, writes_of}
 use Rattle.iol_transfer.specs.Command.{commanded}
 use Rattle.iol_transfer.specs.Exchanges.{Exchange}
 use Rattle.iol_port.proofs.UploadEnds.{read_other, asks_other, break_other, sends_other}
@@ -47,7 +47,7 @@ sending : (set : SetValue) (conversation : List Exchange) (download : Sender) â†
     â†’ IsSending set conversation (sent_by download.sends) download.busy
 sending set conversation download since = record {
   sent = since.sent;
-  left = behind_of set download.sends;
+  left = later_writes set download.sends;
   before = since.before;
   order = since.order;
   is = since.is;
@@ -181,7 +181,7 @@ writes_command first start port connection events (Uploading grant page upload) 
     subst IsGood (answer-is _ _ wants) (asks_good upload.asks)
 writes_command first start port connection events (Downloading permit page download) request is wants =
     subst IsGood (answer-is _ _ wants)
-    (middle_good is.since.sent (behind_of is.stored.set download.sends) (sent_by download.sends)
+    (middle_good is.since.sent (later_writes is.stored.set download.sends) (sent_by download.sends)
     (subst AreGood is.since.order (command_good command.DownloadStart, writes_good is.stored.set.entries is.set_is.entries.each)))
 writes_command first start port connection events (Breaking holder why) request is wants =
     subst IsGood (answer-is _ _ wants) (command_good command.Break)

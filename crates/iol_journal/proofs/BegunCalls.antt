@@ -10,7 +10,7 @@ use Rattle.iol_layout.specs.AreaPlans.{IsAreaPlan, write_of}
 use Rattle.iol_layout.specs.AreaWrites.{IsRow}
 use Rattle.iol_journal.specs.BegunParts.{log_of, commands_owed, AreEncoded, IsBegun}
 use Rattle.iol_journal.specs.Checkpoints.{target, first_of, header_of_target, snapshot_writes, next_stage, IsStage}
-use Rattle.iol_journal.specs.Drafts.{stage_behind, IsSnapshot, AreOwed}
+use Rattle.iol_journal.specs.Drafts.{stage_after, IsSnapshot, AreOwed}
 use Rattle.iol_journal.specs.Planned.{CanFollow, IsEncoded}
 use Rattle.iol_layout.specs.Layout.{other, renewed, slot_at, body_at}
 use Rattle.iol_layout.specs.Meaning.{Standing}
@@ -164,7 +164,7 @@ module _ (d : Disk) (s : Standing) (b : Begun) (is : IsBegun d s b) where
 
   pub answers_stage : (records sectors count : ℕ) → records ≡ length b.plan.records.items → count ≡ length b.owed.items
       → ((o : OwedBatch) (behind : List OwedBatch) → b.owed.items ≡ o ∷ behind → sectors ≡ o.body.sectors)
-      → next_stage (renewed s.layout).slots records sectors count b.stage ≡ stage_behind t owed b.stage
+      → next_stage (renewed s.layout).slots records sectors count b.stage ≡ stage_after t owed b.stage
   answers_stage records sectors count are counted told =
       ap (λ (n : ℕ). next_stage (renewed s.layout).slots records sectors n b.stage) (counted ∙ sym length-owed)
       ∙ stage-by (renewed s.layout).slots records _ sectors _ (length owed) b.stage (λ snapshot. are ∙ same_records snapshot)

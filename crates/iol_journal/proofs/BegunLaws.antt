@@ -14,9 +14,9 @@ use Rattle.iol_journal.specs.BegunParts.{log_of, commands_owed, view_of, AreEnco
 use Rattle.iol_journal.specs.BegunParts.{IsSetAside, IsOwing, AreOwing, IsSameBegun, AreSame}
 use Rattle.iol_layout.specs.Body.{body_octets}
 use Rattle.iol_journal.specs.Pauses.{IsPaused, IsBeside}
-use Rattle.iol_journal.specs.Checkpoints.{target, first_of, behind_first, with_batches, header_of_target}
-use Rattle.iol_journal.specs.Checkpoints.{is_carried, log_behind, owed_behind}
-use Rattle.iol_journal.specs.Drafts.{can_pause, may_pause, idle_at, owing, with_owed, stage_behind, begun_behind, IsSnapshot, IsDrafted}
+use Rattle.iol_journal.specs.Checkpoints.{target, first_of, all_but_first, with_batches, header_of_target}
+use Rattle.iol_journal.specs.Checkpoints.{is_carried, log_after, owed_after}
+use Rattle.iol_journal.specs.Drafts.{can_pause, may_pause, idle_at, owing, with_owed, stage_after, begun_after, IsSnapshot, IsDrafted}
 use Rattle.iol_layout.specs.Standings.{with_batch}
 use Rattle.iol_journal.specs.Planned.{CanFollow, IsEncoded}
 use Rattle.iol_layout.specs.Layout.{Layout, other, renewed}
@@ -43,15 +43,15 @@ use Rattle.iol_journal.proofs.DraftLaws.{drafted_on, pauses, pauses_at, holds_pa
 
 -- the commands of the batches owed after it
 commands-behind : (items : List OwedBatch) (stage : CheckpointStage)
-    → commands_owed (owed_behind items stage) ≡ owed_behind (commands_owed items) stage
+    → commands_owed (owed_after items stage) ≡ owed_after (commands_owed items) stage
 commands-behind items stage = by_test (is_carried stage) _ (λ at. rw at (of items)) (λ away. rw away refl)
   where
-    of : (items : List OwedBatch) → commands_owed (behind_first items) ≡ behind_first (commands_owed items)
+    of : (items : List OwedBatch) → commands_owed (all_but_first items) ≡ all_but_first (commands_owed items)
     of [] = refl
     of (first ∷ behind) = refl
 
 encoded-behind : (t : Standing) (items : List OwedBatch) → 1 ≤ length (commands_owed items) → AreEncoded t items
-    → AreEncoded (with_batch t (first_of (commands_owed items))) (behind_first items)
+    → AreEncoded (with_batch t (first_of (commands_owed items))) (all_but_first items)
 encoded-behind t [] some encoded = absurd (omega (arith, some))
 encoded-behind t (first ∷ behind) some encoded = encoded.1
 
@@ -60,19 +60,19 @@ abbrev PlanOf : Standing → Log → AreaPlan → Type 0
 PlanOf s log plan = IsAreaPlan (renewed s.layout) (other s.area) (header_of_target (target s log)) log.state plan
 
 pub begun_next : (d d' : Disk) (s : Standing) (b new : Begun) (q : CheckpointStage) → d'.sectors ≡ d.sectors → IsBegun d s b
-    → stage_behind (target s (log_of b)) (commands_owed b.owed.items) b.stage ≡ Some q → new.plan ≡ b.plan
-    → log_of new ≡ log_behind (log_of b) (commands_owed b.owed.items) b.stage → new.owed.items ≡ owed_behind b.owed.items b.stage
+    → stage_after (target s (log_of b)) (commands_owed b.owed.items) b.stage ≡ Some q → new.plan ≡ b.plan
+    → log_of new ≡ log_after (log_of b) (commands_owed b.owed.items) b.stage → new.owed.items ≡ owed_after b.owed.items b.stage
     → new.stage ≡ q → IsBegun d' s new
 begun_next d d' s b new q same is next plan log owed stage =
-    let commands : commands_owed new.owed.items ≡ owed_behind (commands_owed b.owed.items) b.stage =
+    let commands : commands_owed new.owed.items ≡ owed_after (commands_owed b.owed.items) b.stage =
     ap commands_owed owed ∙ commands-behind b.owed.items b.stage in
     let drafted = drafted_next d d' s (log_of b) (commands_owed b.owed.items) b.stage q same is.drafted next in record {
       drafted =
           subst (λ (l : Log). IsDrafted d' s (target s l) (commands_owed new.owed.items) new.stage) (sym log)
           (subst (λ (o : List (List CommandValue)).
-          IsDrafted d' s (target s (log_behind (log_of b) (commands_owed b.owed.items) b.stage)) o new.stage) (sym commands)
-          (subst (λ (r : CheckpointStage). IsDrafted d' s (target s (log_behind (log_of b) (commands_owed b.owed.items) b.stage))
-          (owed_behind (commands_owed b.owed.items) b.stage) r) (sym stage) drafted));
+          IsDrafted d' s (target s (log_after (log_of b) (commands_owed b.owed.items) b.stage)) o new.stage) (sym commands)
+          (subst (λ (r : CheckpointStage). IsDrafted d' s (target s (log_after (log_of b) (commands_owed b.owed.items) b.stage))
+          (owed_after (commands_owed b.owed.items) b.stage) r) (sym stage) drafted));
       plan = λ snapshot.
           let was = snapshot_next (renewed s.layout).slots _ _ _ b.stage q next (subst IsSnapshot stage snapshot) in
           subst (PlanOf s (log_of new)) (sym plan)
@@ -80,7 +80,7 @@ begun_next d d' s b new q same is next plan log owed stage =
           ∙ log_unmoved (log_of b) (commands_owed b.owed.items) b.stage was)) (is.plan was));
       encoded =
           subst (λ (l : Log). AreEncoded (target s l) new.owed.items) (sym log)
-          (subst (AreEncoded (target s (log_behind (log_of b) (commands_owed b.owed.items) b.stage))) (sym owed)
+          (subst (AreEncoded (target s (log_after (log_of b) (commands_owed b.owed.items) b.stage))) (sym owed)
           (by_stage (λ l items. AreEncoded (target s l) items) (log_of b) (commands_owed b.owed.items) b.owed.items b.stage is.encoded
           (λ at. encoded-behind (target s (log_of b)) b.owed.items
           (some_owed (renewed s.layout).slots _ _ _ b.stage at is.drafted.in_stage) is.encoded)));
@@ -89,21 +89,21 @@ begun_next d d' s b new q same is next plan log owed stage =
 -- the checkpoint after it, as contracts see it
 abbrev pub moved_view : Begun → CheckpointStage → BegunView
 moved_view b q = record {
-  log = log_behind (log_of b) (commands_owed b.owed.items) b.stage;
-  owed = owed_behind (commands_owed b.owed.items) b.stage;
+  log = log_after (log_of b) (commands_owed b.owed.items) b.stage;
+  owed = owed_after (commands_owed b.owed.items) b.stage;
   stage = q;
 }
 
-pub view-moved : (b new : Begun) (q : CheckpointStage) → log_of new ≡ log_behind (log_of b) (commands_owed b.owed.items) b.stage
-    → new.owed.items ≡ owed_behind b.owed.items b.stage → new.stage ≡ q → view_of new ≡ moved_view b q
+pub view-moved : (b new : Begun) (q : CheckpointStage) → log_of new ≡ log_after (log_of b) (commands_owed b.owed.items) b.stage
+    → new.owed.items ≡ owed_after b.owed.items b.stage → new.stage ≡ q → view_of new ≡ moved_view b q
 view-moved b new q log owed stage =
-    let commands : commands_owed new.owed.items ≡ owed_behind (commands_owed b.owed.items) b.stage =
+    let commands : commands_owed new.owed.items ≡ owed_after (commands_owed b.owed.items) b.stage =
     ap commands_owed owed ∙ commands-behind b.owed.items b.stage in
     λ i. record { log = log i; owed = commands i; stage = stage i }
 
 -- after the last one the journal is in the other area
 pub stands_there : (d : Disk) (s : Standing) (b : Begun) → IsBegun d s b
-    → stage_behind (target s (log_of b)) (commands_owed b.owed.items) b.stage ≡ None → (l : Layout) (a : Area) → l ≡ renewed s.layout
+    → stage_after (target s (log_of b)) (commands_owed b.owed.items) b.stage ≡ None → (l : Layout) (a : Area) → l ≡ renewed s.layout
     → a ≡ other s.area
     → record { layout = l; area = a; epoch = s.epoch + 1; used = b.used; number = s.number; state = s.state }
     ≡ target s (log_of b)
@@ -112,15 +112,15 @@ stands_there d s b is none l a laid_out there =
 
 -- with no batch owed
 pub ends_there : (d : Disk) (s : Standing) (b : Begun) → IsBegun d s b
-    → stage_behind (target s (log_of b)) (commands_owed b.owed.items) b.stage ≡ None
+    → stage_after (target s (log_of b)) (commands_owed b.owed.items) b.stage ≡ None
     → with_batches (target s (log_of b)) (commands_owed b.owed.items) ≡ target s (log_of b)
 ends_there d s b is none = with_none (target s (log_of b)) (commands_owed b.owed.items)
     (no_batch s (log_of b) (commands_owed b.owed.items) b.stage d d is.drafted none)
 
 -- a disk call does not change the standing at the end
 pub ends-moved : (d : Disk) (s : Standing) (b : Begun) → IsBegun d s b
-    → with_batches (target s (log_behind (log_of b) (commands_owed b.owed.items) b.stage))
-    (owed_behind (commands_owed b.owed.items) b.stage)
+    → with_batches (target s (log_after (log_of b) (commands_owed b.owed.items) b.stage))
+    (owed_after (commands_owed b.owed.items) b.stage)
     ≡ with_batches (target s (log_of b)) (commands_owed b.owed.items)
 ends-moved d s b is =
     let t = target s (log_of b) in
@@ -129,9 +129,9 @@ ends-moved d s b is =
     (moved_one t owed (some_owed (renewed s.layout).slots _ _ _ b.stage at is.drafted.in_stage) is.drafted.owed_are).ends)
 
 pub begun-behind : (s : Standing) (b new : Begun) (q : CheckpointStage)
-    → stage_behind (target s (log_of b)) (commands_owed b.owed.items) b.stage ≡ Some q
-    → log_of new ≡ log_behind (log_of b) (commands_owed b.owed.items) b.stage → new.owed.items ≡ owed_behind b.owed.items b.stage
-    → new.stage ≡ q → begun_behind s (view_of b) ≡ Some (view_of new)
+    → stage_after (target s (log_of b)) (commands_owed b.owed.items) b.stage ≡ Some q
+    → log_of new ≡ log_after (log_of b) (commands_owed b.owed.items) b.stage → new.owed.items ≡ owed_after b.owed.items b.stage
+    → new.stage ≡ q → begun_after s (view_of b) ≡ Some (view_of new)
 begun-behind s b new q next log owed stage = rw next (ap Some (sym (view-moved b new q log owed stage)))
 
 -- ---- on another disk with the same number of sectors

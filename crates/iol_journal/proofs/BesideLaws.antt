@@ -41,12 +41,12 @@ beside_after d d' s batch body sectors p idle (Some b) fit in_phase made is besi
     (size-renewed s.layout is.0.drafted.laid_out) d owed b.stage is.0.drafted (beside h)))
 
 -- after the batch is written, it is owed to the checkpoint
-pub paused_behind : (d d' : Disk) (s : Standing) (batch : List CommandValue) (idle : Idle) (old new : Option Begun) (body : EncodedBatch)
+pub paused_after : (d d' : Disk) (s : Standing) (batch : List CommandValue) (idle : Idle) (old new : Option Begun) (body : EncodedBatch)
     (epoch : ℕ) → d'.sectors ≡ d.sectors → IsSetAside d s idle old → CanFollow s batch → IsEncoded s batch body → epoch ≡ s.epoch + 1
     → AreOwing old body epoch batch new → IsBeside d' s (option_map view_of old) → IsAtRest d' (with_batch s batch) idle
     → IsPaused d' (with_batch s batch) (option_map view_of new)
-paused_behind d d' s batch idle None None body epoch same is follows encoded next owes beside rests = tt
-paused_behind d d' s batch idle (Some old) (Some new) body epoch same is follows encoded next owes beside rests =
+paused_after d d' s batch idle None None body epoch same is follows encoded next owes beside rests = tt
+paused_after d d' s batch idle (Some old) (Some new) body epoch same is follows encoded next owes beside rests =
     let t = target s (log_of old) in
     let owed = commands_owed old.owed.items in
     subst (IsDrawnUp d' (with_batch s batch))
@@ -54,5 +54,5 @@ paused_behind d d' s batch idle (Some old) (Some new) body epoch same is follows
     (λ h. holds_owing d'.sectors (with_batch s batch) t owed batch t.layout.slots (length (snapshot_writes t))
     (sectors_for t (first_of owed)) old.stage d'.content (pauses s old.stage is.1) is.0.drafted.in_stage
     (subst (λ (i : Idle). EachImage d'.content (IsKeptAs d'.sectors (with_batch s batch) i)) is.2 (rests h)) (beside h))
-paused_behind d d' s batch idle None (Some new) body epoch same is follows encoded next owes beside rests = absurd owes
-paused_behind d d' s batch idle (Some old) None body epoch same is follows encoded next owes beside rests = absurd owes
+paused_after d d' s batch idle None (Some new) body epoch same is follows encoded next owes beside rests = absurd owes
+paused_after d d' s batch idle (Some old) None body epoch same is follows encoded next owes beside rests = absurd owes

@@ -11,7 +11,7 @@ use Rattle.iol_layout.specs.AreaWrites.{slot_write, slot_writes}
 use Rattle.iol_journal.specs.Batches.{body_for, sectors_for, body_write, gate_write, batch_calls, calls_from}
 use Rattle.iol_journal.specs.BegunParts.{log_of, commands_owed, view_of, IsBegun}
 use Rattle.iol_layout.specs.Body.{records_of, slots_for}
-use Rattle.iol_journal.specs.Checkpoints.{target, first_of, behind_first, with_batches}
+use Rattle.iol_journal.specs.Checkpoints.{target, first_of, all_but_first, with_batches}
 use Rattle.iol_journal.specs.Checkpoints.{snapshot_writes, clearing_calls, close_write, gate_calls}
 use Rattle.iol_journal.specs.Checkpoints.{carry_calls, carry_calls_from, last_calls, snapshot_calls, checkpoint_calls, stage_calls}
 use Rattle.iol_journal.specs.Checkpoints.{IsStage}
@@ -101,7 +101,7 @@ module _ (t : Standing) (owed : List (List CommandValue)) (records : ℕ) where
       )
 
   carried : (owed : List (List CommandValue)) (p : Phase) → 1 ≤ length owed
-      → length (carry_calls_from t (first_of owed) (behind_first owed) p) ≤ 2 + length (carry_calls t owed)
+      → length (carry_calls_from t (first_of owed) (all_but_first owed) p) ≤ 2 + length (carry_calls t owed)
   carried [] p some = absurd (omega (arith, some))
   carried (batch ∷ batches) p some =
       let rest = carry_calls (with_batch t batch) batches in

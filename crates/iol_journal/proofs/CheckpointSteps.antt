@@ -12,8 +12,8 @@ use Rattle.iol_layout.specs.AreaPlans.{AreRecords, IsAreaPlan, write_of}
 use Rattle.iol_journal.specs.Batches.{sectors_for}
 use Rattle.iol_journal.specs.Checkpoints.{target, checkpointed, with_batches, header_of_target}
 use Rattle.iol_journal.specs.Checkpoints.{first_of, snapshot_writes, call_at, next_stage}
-use Rattle.iol_journal.specs.Checkpoints.{first_stage, IsStage, log_behind, owed_behind, stage_calls}
-use Rattle.iol_journal.specs.Drafts.{MeansSame, StageHolds, stage_behind, IsDrafted}
+use Rattle.iol_journal.specs.Checkpoints.{first_stage, IsStage, log_after, owed_after, stage_calls}
+use Rattle.iol_journal.specs.Drafts.{MeansSame, StageHolds, stage_after, IsDrafted}
 use Rattle.iol_layout.specs.Standings.{IsResting}
 use Rattle.iol_layout.specs.Kept.{KeptMeans, IsKeptAs}
 use Rattle.iol_layout.specs.Layout.{Layout, other, renewed, is_renewed}
@@ -30,9 +30,9 @@ use Rattle.iol_journal.specs.declared.stage.CheckpointStage.TheVariants.{ClearHe
 use Rattle.iol_journal.specs.declared.stage.CheckpointStage.TheVariants.{CloseSlot, SyncSlots}
 use Rattle.iol_journal.specs.declared.stage.CheckpointStage.TheVariants.{WriteHeader, WriteRecord, SyncRecords, Carry, OpenGate, SyncOpen}
 use Rattle.iol_journal.proofs.DraftLaws.{resting_on}
-use Rattle.iol_journal.proofs.StageCalls.{calls_behind, first_call}
+use Rattle.iol_journal.proofs.StageCalls.{calls_after, first_call}
 use Rattle.iol_journal.proofs.StageMeanings.{on_the_way}
-use Rattle.iol_journal.proofs.Stages.{HoldsBehind, none_owed, goes_on}
+use Rattle.iol_journal.proofs.Stages.{HoldsAfter, none_owed, goes_on}
 use Rattle.iol_layout.proofs.Plans.{found-there}
 
 -- ---- the parts of a plan
@@ -80,21 +80,21 @@ module _ (s : Standing) (log : Log) (owed : List (List CommandValue)) (stage : C
   t = target s log
 
   abbrev t' : Standing
-  t' = target s (log_behind log owed stage)
+  t' = target s (log_after log owed stage)
 
   abbrev owed' : List (List CommandValue)
-  owed' = owed_behind owed stage
+  owed' = owed_after owed stage
 
   abbrev call : Call
   call = call_at t owed stage
 
   abbrev next : Option CheckpointStage
-  next = stage_behind t owed stage
+  next = stage_after t owed stage
 
   abbrev Before : Type 0
   Before = IsTrue old.honest → StageHolds old.sectors s t owed stage old.content
 
-  behind : IsTrue old.honest → Before → HoldsBehind old.sectors s t' owed' next (content_after call old.content)
+  behind : IsTrue old.honest → Before → HoldsAfter old.sectors s t' owed' next (content_after call old.content)
   behind h holds =
       goes_on old.sectors s log owed
       (size-renewed s.layout drafted.laid_out) drafted.resting.begun drafted.resting.bound drafted.owed_are drafted.same
@@ -114,16 +114,16 @@ module _ (s : Standing) (log : Log) (owed : List (List CommandValue)) (stage : C
       by_result (Err told) failed = failed_leaves _ told old new _ failed way
 
   -- after the call that succeeded
-  made-behind : Made (call ∷ []) old new → Before → IsTrue new.honest → HoldsBehind new.sectors s t' owed' next new.content
+  made-behind : Made (call ∷ []) old new → Before → IsTrue new.honest → HoldsAfter new.sectors s t' owed' next new.content
   made-behind made holds h =
       let h_old = subst IsTrue made.after.honest h in
-      subst (λ (n : ℕ). HoldsBehind n s t' owed' next new.content) (sym made.after.sectors)
-      (subst (HoldsBehind old.sectors s t' owed' next) (sym (made.after.content h_old)) (behind h_old holds))
+      subst (λ (n : ℕ). HoldsAfter n s t' owed' next new.content) (sym made.after.sectors)
+      (subst (HoldsAfter old.sectors s t' owed' next) (sym (made.after.content h_old)) (behind h_old holds))
 
   pub underway : (q : CheckpointStage) → next ≡ Some q → Made (call ∷ []) old new → Before → IsTrue new.honest
       → StageHolds new.sectors s t' owed' q new.content
   underway q is made holds h =
-      subst (λ (then_ : Option CheckpointStage). HoldsBehind new.sectors s t' owed' then_ new.content) is (made-behind made holds h)
+      subst (λ (then_ : Option CheckpointStage). HoldsAfter new.sectors s t' owed' then_ new.content) is (made-behind made holds h)
 
   -- the last stage, at which no batch is owed
   last_stage : (stage : CheckpointStage) (slots records sectors count : ℕ) → next_stage slots records sectors count stage ≡ None
@@ -144,8 +144,8 @@ module _ (s : Standing) (log : Log) (owed : List (List CommandValue)) (stage : C
   at_end : next ≡ None → stage ≡ SyncOpen
   at_end is = last_stage stage t.layout.slots (length (snapshot_writes t)) (sectors_for t (first_of owed)) (length owed) is
 
-  unmoved : next ≡ None → log_behind log owed stage ≡ log
-  unmoved is = ap (log_behind log owed) (at_end is)
+  unmoved : next ≡ None → log_after log owed stage ≡ log
+  unmoved is = ap (log_after log owed) (at_end is)
 
   -- no batch is owed at the last call
   pub no_batch : next ≡ None → length owed ≡ 0
@@ -158,7 +158,7 @@ module _ (s : Standing) (log : Log) (owed : List (List CommandValue)) (stage : C
 
   pub durable : next ≡ None → Made (call ∷ []) old new → Before → IsAtRest new t Older
   durable is made holds h =
-      let whole = subst (λ (then_ : Option CheckpointStage). HoldsBehind new.sectors s t' owed' then_ new.content) is
+      let whole = subst (λ (then_ : Option CheckpointStage). HoldsAfter new.sectors s t' owed' then_ new.content) is
       (made-behind made holds h) in
       subst (λ (l : Log). EachImage new.content (IsKeptAs new.sectors (target s l) Older)) (unmoved is) whole.0
 
@@ -166,7 +166,7 @@ module _ (s : Standing) (log : Log) (owed : List (List CommandValue)) (stage : C
   pub resting : Made (call ∷ []) old new → IsResting new t
   resting made = resting_on old new t made.after.sectors drafted.resting
 
-  order : stage_calls t owed stage ≡ call ∷ calls_behind t' owed' next
+  order : stage_calls t owed stage ≡ call ∷ calls_after t' owed' next
   order = first_call t owed stage drafted.some drafted.in_stage
 
   -- the first of the remaining calls is made, or fails
@@ -174,20 +174,20 @@ module _ (s : Standing) (log : Log) (owed : List (List CommandValue)) (stage : C
       → MakesFirst (stage_calls t owed stage) (stage_calls t' owed' q) old new (Ok tt)
   makes_first q is made = record {
     call = call;
-    order = order ∙ ap (λ (then_ : Option CheckpointStage). call ∷ calls_behind t' owed' then_) is;
+    order = order ∙ ap (λ (then_ : Option CheckpointStage). call ∷ calls_after t' owed' then_) is;
     makes = made;
   }
 
   pub makes_last : next ≡ None → Made (call ∷ []) old new → MakesFirst (stage_calls t owed stage) [] old new (Ok tt)
   makes_last is made = record {
     call = call;
-    order = order ∙ ap (λ (then_ : Option CheckpointStage). call ∷ calls_behind t' owed' then_) is;
+    order = order ∙ ap (λ (then_ : Option CheckpointStage). call ∷ calls_after t' owed' then_) is;
     makes = made;
   }
 
   pub fails_first : (told : DiskFault) → FailedIn (call ∷ []) told old new
       → (others : List Call) × MakesFirst (stage_calls t owed stage) others old new (Err told)
-  fails_first told failed = (calls_behind t' owed' next, record { call = call; order = order; makes = failed })
+  fails_first told failed = (calls_after t' owed' next, record { call = call; order = order; makes = failed })
 
 -- with no batch
 pub with_none : (t : Standing) (owed : List (List CommandValue)) → length owed ≡ 0 → with_batches t owed ≡ t

@@ -12,7 +12,7 @@ use Rattle.iol_journal.specs.Formatting.{IsEmptyJournalOf, IsEmptyOrUnformatted}
 use Rattle.iol_journal.proofs.EmptyParts.{IsEmptyJournal}
 use Rattle.iol_journal.specs.Orders.{opening_calls}
 use Rattle.iol_layout.specs.declared.geometry.TheConstants.{DISK_GATE}
-use Rattle.iol_journal.proofs.EmptyJournals.{shut-unformatted, journal-behind_gate, empty-journal, empty-or_unformatted}
+use Rattle.iol_journal.proofs.EmptyJournals.{shut-unformatted, journal-after_gate, empty-journal, empty-or_unformatted}
 
 -- whatever a power stop leaves, the gate of the disk is closed
 abbrev pub Shut : Content → Type 0
@@ -75,7 +75,7 @@ module _ (version : Version) (g : Geometry) (sectors : ℕ) (fits : total (laid_
   gate_written image is =
       let w = image-wrote DISK_GATE open_gate (synced c) image is in
       let was = subst (IsEmptyJournal version g) (sym (image-synced c w.0 w.1)) journal in
-      empty-or_unformatted version g sectors image fits (journal-behind_gate version g image w.0 w.2 was)
+      empty-or_unformatted version g sectors image fits (journal-after_gate version g image w.0 w.2 was)
 
   -- the gate is opened after a sync
   pub opened : HasOnTheWay opening_calls c (IsEmptyOrUnformatted g sectors)
@@ -98,4 +98,4 @@ module _ (version : Version) (g : Geometry) (sectors : ℕ) (fits : total (laid_
   durable image is =
       subst (λ (left : Image). IsEmptyJournalOf g sectors left) (sym (image-synced gated image is))
       (empty-journal version g sectors (reads gated) fits (ap is_open (reads-wrote_here DISK_GATE open_gate (synced c)) ∙ is_open-open_gate)
-      (journal-behind_gate version g (reads gated) (reads c) (λ i other. reads-wrote_other DISK_GATE open_gate (synced c) i other) journal))
+      (journal-after_gate version g (reads gated) (reads c) (λ i other. reads-wrote_other DISK_GATE open_gate (synced c) i other) journal))

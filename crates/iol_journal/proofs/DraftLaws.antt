@@ -7,9 +7,9 @@ use Rattle.iol_disk.specs.Content.{Content, EachImage}
 use Rattle.iol_disk.specs.Disk.{Disk}
 use Rattle.iol_layout.specs.Kept.{IsKeptAs}
 use Rattle.iol_journal.specs.Batches.{sectors_for}
-use Rattle.iol_journal.specs.Checkpoints.{target, first_of, behind_first, log_with, with_batches, snapshot_writes, next_stage}
-use Rattle.iol_journal.specs.Checkpoints.{IsStage, is_carried, log_behind, owed_behind}
-use Rattle.iol_journal.specs.Drafts.{idle_at, AreaHolds, MeansSame, StageHolds, can_pause, may_pause, owing, stage_behind}
+use Rattle.iol_journal.specs.Checkpoints.{target, first_of, all_but_first, log_with, with_batches, snapshot_writes, next_stage}
+use Rattle.iol_journal.specs.Checkpoints.{IsStage, is_carried, log_after, owed_after}
+use Rattle.iol_journal.specs.Drafts.{idle_at, AreaHolds, MeansSame, StageHolds, can_pause, may_pause, owing, stage_after}
 use Rattle.iol_journal.specs.Drafts.{IsSnapshot, IsFresh}
 use Rattle.iol_journal.specs.Drafts.{AreOwed, IsDrafted}
 use Rattle.iol_layout.specs.Standings.{with_batch, IsResting}
@@ -56,8 +56,8 @@ drafted_on d d' s t owed stage same drafted = record {
 -- a batch becomes carried at only one stage
 pub by_stage : {A : Type 0} (P : Log → List A → Type 0) (log : Log) (owed : List (List CommandValue)) (items : List A)
     (stage : CheckpointStage)
-    → P log items → (is_carried stage ≡ true → P (log_with log (first_of owed)) (behind_first items))
-    → P (log_behind log owed stage) (owed_behind items stage)
+    → P log items → (is_carried stage ≡ true → P (log_with log (first_of owed)) (all_but_first items))
+    → P (log_after log owed stage) (owed_after items stage)
 by_stage P log owed items stage here moved = by_test (is_carried stage) _ (λ at. rw at (moved at)) (λ away. rw away here)
 
 -- and a batch is owed there
@@ -79,8 +79,8 @@ some_owed slots records sectors owed SyncOpen at is = absurd cc
 -- the carried batch can be written, and with the batches after it the area ends as before
 pub record IsMoved (t : Standing) (owed : List (List CommandValue)) : Type 0 where
   pub first : CanFollow t (first_of owed)
-  pub behind : AreOwed (with_batch t (first_of owed)) (behind_first owed)
-  pub ends : with_batches (with_batch t (first_of owed)) (behind_first owed) ≡ with_batches t owed
+  pub behind : AreOwed (with_batch t (first_of owed)) (all_but_first owed)
+  pub ends : with_batches (with_batch t (first_of owed)) (all_but_first owed) ≡ with_batches t owed
 
 pub moved_one : (t : Standing) (owed : List (List CommandValue)) → 1 ≤ length owed → AreOwed t owed → IsMoved t owed
 moved_one t [] some are = absurd (omega (arith, some))
@@ -126,7 +126,7 @@ not_carried OpenGate is = absurd is
 not_carried SyncOpen is = absurd is
 
 pub log_unmoved : (log : Log) (owed : List (List CommandValue)) (stage : CheckpointStage) → IsSnapshot stage
-    → log_behind log owed stage ≡ log
+    → log_after log owed stage ≡ log
 log_unmoved log owed stage is = let away = not_carried stage is in rw away refl
 
 -- the next stage belongs to the snapshot only if this one does
@@ -139,12 +139,12 @@ snapshot_next slots records sectors owed stage q is =
 
 module _ (d d' : Disk) (s : Standing) (log : Log) (owed : List (List CommandValue)) (stage q : CheckpointStage)
     (same : d'.sectors ≡ d.sectors)
-    (drafted : IsDrafted d s (target s log) owed stage) (next : stage_behind (target s log) owed stage ≡ Some q) where
+    (drafted : IsDrafted d s (target s log) owed stage) (next : stage_after (target s log) owed stage ≡ Some q) where
   abbrev t : Standing
   t = target s log
 
   abbrev t' : Standing
-  t' = target s (log_behind log owed stage)
+  t' = target s (log_after log owed stage)
 
   -- a batch is carried only if one is owed
   moved : is_carried stage ≡ true → IsMoved t owed
@@ -160,7 +160,7 @@ module _ (d d' : Disk) (s : Standing) (log : Log) (owed : List (List CommandValu
 
   -- the sectors of records matter only while they are still to be written
   abbrev IsThen : ℕ → CheckpointStage → Type 0
-  IsThen records = IsStage t.layout.slots records (sectors_for t' (first_of (owed_behind owed stage))) (length (owed_behind owed stage))
+  IsThen records = IsStage t.layout.slots records (sectors_for t' (first_of (owed_after owed stage))) (length (owed_after owed stage))
 
   in_stage_next : IsThen (length (snapshot_writes t')) q
   in_stage_next =
@@ -187,7 +187,7 @@ module _ (d d' : Disk) (s : Standing) (log : Log) (owed : List (List CommandValu
       records-by OpenGate is same = is
       records-by SyncOpen is same = is
 
-  pub drafted_next : IsDrafted d' s t' (owed_behind owed stage) q
+  pub drafted_next : IsDrafted d' s t' (owed_after owed stage) q
   drafted_next = record {
     laid_out = drafted.laid_out;
     some = drafted.some;

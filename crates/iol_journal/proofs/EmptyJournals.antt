@@ -37,9 +37,9 @@ module _ (version : Version) (g : Geometry) where
   layout = laid_out version g
 
   -- the gate of the disk does not belong to the area
-  pub journal-behind_gate : (image was : Image) → ((i : ℕ) → i ≢ DISK_GATE → image i ≡ was i) → IsEmptyJournal version g was
+  pub journal-after_gate : (image was : Image) → ((i : ℕ) → i ≢ DISK_GATE → image i ≡ was i) → IsEmptyJournal version g was
       → IsEmptyJournal version g image
-  journal-behind_gate image was same is = record {
+  journal-after_gate image was same is = record {
     areas = record {
       geometry = rw (same GEOMETRY (omega arith)) is.areas.geometry;
       is = is.areas.is;

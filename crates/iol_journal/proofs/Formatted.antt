@@ -53,10 +53,10 @@ shut-same old new same shut h image is =
     shut h_old image (subst (λ (c : Content). IsImage c image) (same.content h_old) is)
 
 -- the writes while the gate of the disk is shut, and then the gate
-abbrev pub WritesBehind : Geometry → Disk → Disk → Type 0
-WritesBehind g old new = IsShut DISK_GATE old → LeavesOnly old new (IsEmptyOrUnformatted g old.sectors)
+abbrev pub WritesAfter : Geometry → Disk → Disk → Type 0
+WritesAfter g old new = IsShut DISK_GATE old → LeavesOnly old new (IsEmptyOrUnformatted g old.sectors)
 
-pub behind-nothing : (g : Geometry) (d : Disk) → WritesBehind g d d
+pub behind-nothing : (g : Geometry) (d : Disk) → WritesAfter g d d
 behind-nothing g d shut = started d _ (λ h image is. inl (shut-unformatted d.sectors image (shut h image is)))
 
 -- the images during the calls after the first sync
@@ -72,7 +72,7 @@ way version g sectors c is fits shut =
 
 pub behind-makes : (result : Result Unit DiskFault) (version : Version) (g : Geometry) (old new : Disk) → IsGeometry g
     → total (laid_out version g) ≤ old.sectors
-    → Makes (journal_writes version g ++ opening_calls) old new result → WritesBehind g old new
+    → Makes (journal_writes version g ++ opening_calls) old new result → WritesAfter g old new
 behind-makes (Ok done) version g old new is fits made shut =
     made_leaves _ old new _ made (λ h. way version g old.sectors old.content is fits (shut h))
 behind-makes (Err told) version g old new is fits failed shut =
@@ -91,7 +91,7 @@ made-empty version g old new is fits made shut h image is_image =
     (subst (λ (c : Content). IsImage c image) all is_image))
 
 behind-synced : (g : Geometry) (old mid read new : Disk) → After synced old mid → Same mid read
-    → Shows old (λ image. is_open (image DISK_GATE) ≡ false) → WritesBehind g read new
+    → Shows old (λ image. is_open (image DISK_GATE) ≡ false) → WritesAfter g read new
     → LeavesOnly mid new (IsEmptyOrUnformatted g old.sectors)
 behind-synced g old mid read new after same closed writes =
     let shut = read_shut old mid after closed in
@@ -100,7 +100,7 @@ behind-synced g old mid read new after same closed writes =
     (subst (λ (n : ℕ). LeavesOnly read new (IsEmptyOrUnformatted g n)) sizes (writes (shut-same mid read same shut)))
 
 pub written-any_moment : (g : Geometry) (old mid read new : Disk) → After synced old mid → Same mid read
-    → Shows old (λ image. is_open (image DISK_GATE) ≡ false) → WritesBehind g read new
+    → Shows old (λ image. is_open (image DISK_GATE) ≡ false) → WritesAfter g read new
     → LeavesOnly old new (λ image. IsImage old.content image ⊎ IsEmptyOrUnformatted g old.sectors image)
 written-any_moment g old mid read new after same closed writes =
     and_then old mid new _ (weaker old mid _ _ (quiet_sync old mid after) (λ h image is. inl is))
@@ -116,7 +116,7 @@ closed-or_kept old new P leaves closed opened = weaker old new _ _ leaves (λ h 
     clash was_closed was_open = cc
 
 pub written-since : (g : Geometry) (old mid read new : Disk) → After synced old mid → Same mid read
-    → Shows old (λ image. is_open (image DISK_GATE) ≡ false) → WritesBehind g read new → LeavesFormat g old new
+    → Shows old (λ image. is_open (image DISK_GATE) ≡ false) → WritesAfter g read new → LeavesFormat g old new
 written-since g old mid read new after same closed writes h later image left =
     let next : clock old.content + 1 ≡ clock mid.content =
     omega (arith, ap clock (after.content h), length-append old.content.past (now old.content ∷ [])) in

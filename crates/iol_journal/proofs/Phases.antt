@@ -273,13 +273,13 @@ rest_means d d' s s' idle idle' same_disk same_standing same_idle rest =
     (rest, λ h image is. kept_means d.sectors s idle image (rest h image is))))
 
 -- the standing after a batch, as the step makes it
-pub standing_behind : (place : Place) (number number' span : ℕ) (state state' : State) (commands : List CommandValue)
+pub standing_written : (place : Place) (number number' span : ℕ) (state state' : State) (commands : List CommandValue)
     → span ≡ slots_for commands
     → number' ≡ number + length commands → state' ≡ after state commands
     → standing_at (record { layout = place.layout; area = place.area; epoch = place.epoch; used = place.used + span; idle = place.idle })
     number' state'
     ≡ with_batch (standing_at place number state) commands
-standing_behind place number number' span state state' commands same_span same_number same_state =
+standing_written place number number' span state state' commands same_span same_number same_state =
     λ j. record {
       layout = place.layout;
       area = place.area;

@@ -9,8 +9,8 @@ use Rattle.iol_disk.specs.Calls.{Call, sync}
 use Rattle.iol_layout.specs.AreaWrites.{slot_write, slot_writes}
 use Rattle.iol_journal.specs.Batches.{body_for, sectors_for, batch_calls, next_phase, IsPhase}
 use Rattle.iol_journal.specs.Checkpoints.{snapshot_writes, gate_calls, carry_calls, last_calls, snapshot_calls}
-use Rattle.iol_journal.specs.Checkpoints.{checkpoint_calls, first_stage, first_of, behind_first, call_at, next_batch, next_stage}
-use Rattle.iol_journal.specs.Checkpoints.{IsStage, log_behind, owed_behind, with_log, stage_calls}
+use Rattle.iol_journal.specs.Checkpoints.{checkpoint_calls, first_stage, first_of, all_but_first, call_at, next_batch, next_stage}
+use Rattle.iol_journal.specs.Checkpoints.{IsStage, log_after, owed_after, with_log, stage_calls}
 use Rattle.iol_layout.specs.Standings.{with_batch}
 use Rattle.iol_layout.specs.Meaning.{Log, Standing}
 use Rattle.iol_journal.specs.declared.phase.Phase.{Phase}
@@ -29,13 +29,13 @@ abbrev pub log_in : Standing → Log
 log_in t = record { used = t.used; number = t.number; state = t.state }
 
 -- the standing of the area after the disk call of a stage
-abbrev pub target_behind : Standing → List (List CommandValue) → CheckpointStage → Standing
-target_behind t owed stage = with_log t (log_behind (log_in t) owed stage)
+abbrev pub target_after : Standing → List (List CommandValue) → CheckpointStage → Standing
+target_after t owed stage = with_log t (log_after (log_in t) owed stage)
 
 -- the calls after one, with the next stage
-abbrev pub calls_behind : Standing → List (List CommandValue) → Option CheckpointStage → List Call
-calls_behind t owed (Some stage) = stage_calls t owed stage
-calls_behind t owed None = []
+abbrev pub calls_after : Standing → List (List CommandValue) → Option CheckpointStage → List Call
+calls_after t owed (Some stage) = stage_calls t owed stage
+calls_after t owed None = []
 
 -- the call at a place, and those after it
 drop-call : (calls : List Call) (i : ℕ) → i < length calls → drop i calls ≡ unwrap_or (slice_get calls i) sync ∷ drop (suc i) calls
@@ -55,7 +55,7 @@ owed_first t (batch ∷ batches) n is =
     ∙ ap (λ (calls : List Call). calls ++ (rest ++ gate_calls t)) (sym (all_of_batch t batch)))
 
 -- after the first of them one batch fewer is owed
-pub length-behind : (owed : List (List CommandValue)) → length owed - 1 ≡ length (behind_first owed)
+pub length-behind : (owed : List (List CommandValue)) → length owed - 1 ≡ length (all_but_first owed)
 length-behind [] = omega arith
 length-behind (batch ∷ batches) = omega arith
 
@@ -96,7 +96,7 @@ module _ (t : Standing) (owed : List (List CommandValue)) where
   -- the next of two possible stages
   one_of : (n m : ℕ) (p q : CheckpointStage) (calls : List Call) → (n < m → calls ≡ stage_calls t owed p)
       → (m ≤ n → calls ≡ stage_calls t owed q)
-      → calls ≡ calls_behind t owed (Some (if nat_lt n m then p else q))
+      → calls ≡ calls_after t owed (Some (if nat_lt n m then p else q))
   one_of n m p q calls more last = by_test (nat_lt n m) _
       (λ less. rw less (more (grind (arith, nat_tests))))
       (λ no_less. rw no_less (last (grind (arith, nat_tests))))
@@ -104,13 +104,13 @@ module _ (t : Standing) (owed : List (List CommandValue)) where
   carry_phase : (p q : Phase) → IsPhase sectors p → next_phase sectors p ≡ Some q
       → stage_calls t owed (Carry p) ≡ call_at t owed (Carry p) ∷ stage_calls t owed (Carry q)
   carry_phase p q in_phase next =
-      ap (λ (calls : List Call). calls ++ (carry_calls (with_batch t (first_of owed)) (behind_first owed) ++ gate_calls t))
+      ap (λ (calls : List Call). calls ++ (carry_calls (with_batch t (first_of owed)) (all_but_first owed) ++ gate_calls t))
       (first_of_batch t (body_for t (first_of owed)) sectors p q in_phase next)
 
   -- the call of a stage, and those from the next stage on
   pub first_call : (stage : CheckpointStage) → 1 ≤ t.layout.slots → IsStage t.layout.slots records sectors (length owed) stage
       → stage_calls t owed stage ≡ call_at t owed stage
-      ∷ calls_behind (target_behind t owed stage) (owed_behind owed stage)
+      ∷ calls_after (target_after t owed stage) (owed_after owed stage)
       (next_stage t.layout.slots records sectors (length owed) stage)
   first_call ClearHeader some in_stage = refl
   first_call SyncHeader some in_stage = refl
@@ -136,7 +136,7 @@ module _ (t : Standing) (owed : List (List CommandValue)) where
   first_call (Carry Gate) some in_stage = refl
   first_call (Carry SyncGate) some in_stage =
       ap (λ (calls : List Call). sync ∷ calls)
-      (owed_first (with_batch t (first_of owed)) (behind_first owed) (length owed - 1) (length-behind owed))
+      (owed_first (with_batch t (first_of owed)) (all_but_first owed) (length owed - 1) (length-behind owed))
   first_call OpenGate some in_stage = refl
   first_call SyncOpen some in_stage = refl
 
@@ -159,7 +159,7 @@ module _ (t : Standing) (owed : List (List CommandValue)) (slots records : ℕ) 
   IsNext t' owed' next = IfSome next (IsStage slots records (sectors_for t' (first_of owed')) (length owed'))
 
   pub in_next : (stage : CheckpointStage) → 1 ≤ slots → IsStage slots records (sectors_for t (first_of owed)) (length owed) stage
-      → IsNext (target_behind t owed stage) (owed_behind owed stage)
+      → IsNext (target_after t owed stage) (owed_after owed stage)
       (next_stage slots records (sectors_for t (first_of owed)) (length owed) stage)
   in_next ClearHeader some in_stage = tt
   in_next SyncHeader some in_stage = tt
@@ -177,6 +177,6 @@ module _ (t : Standing) (owed : List (List CommandValue)) (slots records : ℕ) 
   in_next (Carry SyncBody) some in_stage = in_stage
   in_next (Carry Gate) some in_stage = in_stage
   in_next (Carry SyncGate) some in_stage =
-      in_batch (with_batch t (first_of owed)) slots records (behind_first owed) (length owed - 1) (length-behind owed)
+      in_batch (with_batch t (first_of owed)) slots records (all_but_first owed) (length owed - 1) (length-behind owed)
   in_next OpenGate some in_stage = in_stage
   in_next SyncOpen some in_stage = tt

@@ -18,7 +18,7 @@ use Rattle.iol_journal.specs.declared.stage.CheckpointStage.TheVariants.{WriteHe
 use Rattle.iol_layout.proofs.Chains.{by_test}
 use Rattle.iol_layout.proofs.Frames.{kept_means}
 use Rattle.iol_disk.proofs.Synced.{left_behind}
-use Rattle.iol_journal.proofs.Stages.{HoldsBehind}
+use Rattle.iol_journal.proofs.Stages.{HoldsAfter}
 
 module _ (size : ℕ) (s : Standing) where
   -- while the gate is being written, if both areas mean the same
@@ -44,16 +44,16 @@ module _ (size : ℕ) (s : Standing) where
   stage_means t owed OpenGate c holds image is = kept_means size s Closed image (holds.0 image is)
   stage_means t owed SyncOpen c holds image is = turning_means t image holds.2 (holds.0 image is)
 
-  pub behind_means : (t : Standing) (owed : List (List CommandValue)) (next : Option CheckpointStage) (c : Content)
-      → HoldsBehind size s t owed next c → (image : Image) → IsImage c image → KeptMeans size s.number s.state image
-  behind_means t owed (Some stage) c holds image is = stage_means t owed stage c holds image is
-  behind_means t owed None c (kept, (number, state)) image is = rw (← number, ← state) (kept_means size t Older image (kept image is))
+  pub after_means : (t : Standing) (owed : List (List CommandValue)) (next : Option CheckpointStage) (c : Content)
+      → HoldsAfter size s t owed next c → (image : Image) → IsImage c image → KeptMeans size s.number s.state image
+  after_means t owed (Some stage) c holds image is = stage_means t owed stage c holds image is
+  after_means t owed None c (kept, (number, state)) image is = rw (← number, ← state) (kept_means size t Older image (kept image is))
 
   -- the images during a call
   pub on_the_way : (t u : Standing) (owed left : List (List CommandValue)) (stage : CheckpointStage) (next : Option CheckpointStage)
       (c : Content)
-      → StageHolds size s t owed stage c → HoldsBehind size s u left next (content_after (call_at t owed stage) c)
+      → StageHolds size s t owed stage c → HoldsAfter size s u left next (content_after (call_at t owed stage) c)
       → HasOnTheWay (call_at t owed stage ∷ []) c (KeptMeans size s.number s.state)
   on_the_way t u owed left stage next c holds behind zero image is = stage_means t owed stage c holds image is
   on_the_way t u owed left stage next c holds behind (suc place) image is =
-      behind_means u left next (content_after (call_at t owed stage) c) behind image (left_behind _ image place is)
+      after_means u left next (content_after (call_at t owed stage) c) behind image (left_behind _ image place is)

@@ -15,9 +15,9 @@ use Rattle.iol_layout.specs.Layout.{other, renewed, area_sectors, gate_at, heade
 use Rattle.iol_layout.specs.Meaning.{Log, Standing}
 use Rattle.iol_layout.specs.Octets.{sector_of}
 use Rattle.iol_journal.specs.Batches.{body_for, sectors_for}
-use Rattle.iol_journal.specs.Checkpoints.{target, first_of, behind_first, with_batches, snapshot_writes, call_at}
+use Rattle.iol_journal.specs.Checkpoints.{target, first_of, all_but_first, with_batches, snapshot_writes, call_at}
 use Rattle.iol_layout.specs.Body.{records_of, slots_for}
-use Rattle.iol_journal.specs.Checkpoints.{next_batch, next_stage, log_behind, owed_behind, first_stage, IsStage}
+use Rattle.iol_journal.specs.Checkpoints.{next_batch, next_stage, log_after, owed_after, first_stage, IsStage}
 use Rattle.iol_journal.specs.Drafts.{AreShut, IsPrepared, OpensTo, MeansSame, StageHolds, IsSnapshot, IsFresh, AreOwed}
 use Rattle.iol_layout.specs.Standings.{with_batch}
 use Rattle.iol_journal.specs.Planned.{CanFollow}
@@ -43,9 +43,9 @@ use Rattle.iol_journal.proofs.DraftWrites.{record_written, opens, turning}
 
 -- what holds after the call of a stage: what the next stage requires, or at the end that the checkpoint is
 -- whole
-abbrev pub HoldsBehind : ℕ → Standing → Standing → List (List CommandValue) → Option CheckpointStage → Content → Type 0
-HoldsBehind size s t owed (Some stage) c = StageHolds size s t owed stage c
-HoldsBehind size s t owed None c = EachImage c (IsKeptAs size t Older) × MeansSame t s
+abbrev pub HoldsAfter : ℕ → Standing → Standing → List (List CommandValue) → Option CheckpointStage → Content → Type 0
+HoldsAfter size s t owed (Some stage) c = StageHolds size s t owed stage c
+HoldsAfter size s t owed None c = EachImage c (IsKeptAs size t Older) × MeansSame t s
 
 -- the next of two possible stages
 abbrev one_of : Bool → CheckpointStage → CheckpointStage → Option CheckpointStage
@@ -53,7 +53,7 @@ one_of more p q = Some (if more then p else q)
 
 holds_one_of : (size : ℕ) (s t : Standing) (owed : List (List CommandValue)) (n m : ℕ) (p q : CheckpointStage) (c : Content)
     → (n < m → StageHolds size s t owed p c) → (m ≤ n → StageHolds size s t owed q c)
-    → HoldsBehind size s t owed (one_of (nat_lt n m) p q) c
+    → HoldsAfter size s t owed (one_of (nat_lt n m) p q) c
 holds_one_of size s t owed n m p q c more last = by_test (nat_lt n m) _
     (λ less. rw less (more (grind (arith, nat_tests))))
     (λ no_less. rw no_less (last (grind (arith, nat_tests))))
@@ -67,7 +67,7 @@ first_owed t (batch ∷ batches) some are = are.0
 
 -- after the records or a batch: the next batch, or the gate
 carry_next : (size : ℕ) (s t : Standing) (owed : List (List CommandValue)) (n : ℕ) (c : Content) → EachImage c (IsKeptAs size s Closed)
-    → OpensTo size t c → IsSettled c → HoldsBehind size s t owed (Some (next_batch n)) c
+    → OpensTo size t c → IsSettled c → HoldsAfter size s t owed (Some (next_batch n)) c
 carry_next size s t owed n c kept opens_to settled = holds_one_of size s t owed 0 n (Carry (Body 0)) OpenGate c
     (λ more. (kept, (opens_to, λ j below. absurd (omega (arith, below)))))
     (λ none. (kept, opens_to, settled))
@@ -102,7 +102,7 @@ module _ (size : ℕ) (s : Standing) (log : Log) (owed : List (List CommandValue
   pub goes_on : (stage : CheckpointStage) (c : Content) → (IsSnapshot stage → IsFresh t')
       → IsStage t'.layout.slots records sectors (length owed) stage
       → StageHolds size s t' owed stage c
-      → HoldsBehind size s (target s (log_behind log owed stage)) (owed_behind owed stage)
+      → HoldsAfter size s (target s (log_after log owed stage)) (owed_after owed stage)
       (next_stage t'.layout.slots records sectors (length owed) stage) (content_after (call_at t' owed stage) c)
   goes_on ClearHeader c fresh in_stage holds = (
     each_write size s Closed (header_at t'.layout t'.area) (header_octets t'.layout.version 0 0) c
@@ -189,7 +189,7 @@ module _ (size : ℕ) (s : Standing) (log : Log) (owed : List (List CommandValue
         carry_gate size t' (first_of owed) is c holds.1.0 holds.1.1,
       )
   goes_on (Carry SyncGate) c fresh in_stage holds =
-      carry_next size s (with_batch t' (first_of owed)) (behind_first owed) (length owed - 1) (synced c)
+      carry_next size s (with_batch t' (first_of owed)) (all_but_first owed) (length owed - 1) (synced c)
       (sync_again size s Closed c holds.0) holds.1 (λ i. refl)
   goes_on OpenGate c fresh in_stage holds = (
     turning size s log alike c holds.0 holds.2 holds.1,

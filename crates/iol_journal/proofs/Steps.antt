@@ -122,9 +122,9 @@ module _ (s : Standing) (idle : Idle) (commands : List CommandValue) (body : Lis
       )
 
 -- the journal is at rest after its last call
-pub resting_behind : (d d' : Disk) (s : Standing) (commands : List CommandValue) (p : Phase) → IsPlanned d s commands p → d'.sectors
+pub resting_after : (d d' : Disk) (s : Standing) (commands : List CommandValue) (p : Phase) → IsPlanned d s commands p → d'.sectors
     ≡ d.sectors → IsResting d' (with_batch s commands)
-resting_behind d d' s commands p planned same = rests_with d' s commands planned.follows
+resting_after d d' s commands p planned same = rests_with d' s commands planned.follows
     (subst (λ (n : ℕ). total s.layout ≤ n) (sym same) planned.fits) planned.laid_out planned.begun planned.count
 
 -- the same of the batch as contracts see it

@@ -74,7 +74,7 @@ same_honest old number state [] all = refl
 same_honest old number state (s ∷ stretches) (means, passes, leaves, others) = same_honest s.disk _ _ stretches others ∙ leaves.honest
 
 -- after written commands
-prefix_behind : (old : Disk) (first : ℕ) (start : State) (written : List CommandValue) (stretches : List Stretch) (k : ℕ) → k
+prefix_after : (old : Disk) (first : ℕ) (start : State) (written : List CommandValue) (stretches : List Stretch) (k : ℕ) → k
     < length stretches
     → legal start written ≡ true
     → AreStretches old (first + length written) (after start written) stretches
@@ -82,8 +82,8 @@ prefix_behind : (old : Disk) (first : ℕ) (start : State) (written : List Comma
     → IsImageSince (clock (disk_after old (take k stretches)).content) (disk_after old stretches).content image
     → HasPrefix old.sectors first start (written ++ commands_in stretches) (first + length (written ++ commands_in (take k stretches)))
     image
-prefix_behind old first start written [] k below passes all h image left = absurd (omega (arith, below))
-prefix_behind old first start written (s ∷ stretches) zero below passes all h image left =
+prefix_after old first start written [] k below passes all h image left = absurd (omega (arith, below))
+prefix_after old first start written (s ∷ stretches) zero below passes all h image left =
     let now : Mark = record { clock = clock old.content; acknowledged = first + length written } in
     let nothing : IsRun old (resting first start written []) = record {
       passes = subst (λ (cs : List CommandValue). legal start cs ≡ true) (sym (append-nil written)) passes;
@@ -97,11 +97,11 @@ prefix_behind old first start written (s ∷ stretches) zero below passes all h 
     subst (λ (n : ℕ). HasPrefix n first start (written ++ commands_in (s ∷ stretches)) (first + length (written ++ [])) image)
     (same_sectors old _ _ (s ∷ stretches) all)
     (rw (append-nil written, ← append-nil (written ++ commands_in (s ∷ stretches))) has)
-prefix_behind old first start written (s ∷ stretches) (suc k) below passes (means, pass, leaves, others) h image left =
+prefix_after old first start written (s ∷ stretches) (suc k) below passes (means, pass, leaves, others) h image left =
     subst (λ (n : ℕ). HasPrefix n first start (written ++ commands_in (s ∷ stretches)) (first
     + length (written ++ commands_in (take (suc k) (s ∷ stretches)))) image) leaves.sectors
     (rw (← append_assoc written s.commands (commands_in stretches), ← append_assoc written s.commands (commands_in (take k stretches)))
-    (prefix_behind s.disk first start (written ++ s.commands) stretches k (omega (arith, below))
+    (prefix_after s.disk first start (written ++ s.commands) stretches k (omega (arith, below))
     (rw (legal-append start written s.commands, passes, pass) refl)
     (at_end (λ n state. AreStretches s.disk n state stretches) first start written s.commands others)
     (subst IsTrue (sym leaves.honest) h) image left))
@@ -113,4 +113,4 @@ pub stretches_keep_what_is_written : (old : Disk) (number : ℕ) (state : State)
     → IsImageSince (clock (disk_after old (take k stretches)).content) (disk_after old stretches).content image
     → HasPrefix old.sectors number state (commands_in stretches) (number + length (commands_in (take k stretches))) image
 stretches_keep_what_is_written old number state stretches all k below =
-    prefix_behind old number state [] stretches k below refl (subst (λ (n : ℕ). AreStretches old n state stretches) (omega arith) all)
+    prefix_after old number state [] stretches k below refl (subst (λ (n : ℕ). AreStretches old n state stretches) (omega arith) all)

@@ -2,7 +2,7 @@
 use Rattle.std.specs.Prelude.{◌≡◌, List, [], Some, None, Ok, Err}
 use Rattle.iol_disk.specs.Calls.{Call, MakesFirst}
 use Rattle.iol_disk.specs.Disk.{Disk}
-use Rattle.iol_journal.specs.Drafts.{begun_behind}
+use Rattle.iol_journal.specs.Drafts.{begun_after}
 use Rattle.iol_layout.specs.Layout.{renewed}
 use Rattle.iol_layout.specs.declared.idle.Idle.TheVariants.{Older}
 use Rattle.iol_journal.specs.Journals.{JournalView}
@@ -29,7 +29,7 @@ IfCheckpointed progress P = Unit {0}
 pub record IsCheckpointMoved {D : Type 0} (c d : CheckpointingView D) : Type 0 where
   pub standing : d.standing ≡ c.standing
   pub history : d.history ≡ c.history
-  pub behind : begun_behind c.standing c.begun ≡ Some d.begun
+  pub behind : begun_after c.standing c.begun ≡ Some d.begun
   pub end : end_of d ≡ end_of c
 
 -- the journal after the last disk call of a checkpoint: the other area is in use, in the newest layout and under the next epoch,

@@ -53,9 +53,9 @@ first_of [] = []
 first_of (batch ∷ batches) = batch
 
 -- the owed batches after the first; none if none is owed (own)
-abbrev pub behind_first : {A : Type 0} → List A → List A
-behind_first [] = []
-behind_first (batch ∷ batches) = batches
+abbrev pub all_but_first : {A : Type 0} → List A → List A
+all_but_first [] = []
+all_but_first (batch ∷ batches) = batches
 
 -- the standing in the same area with this log (own)
 abbrev pub with_log : Standing → Log → Standing
@@ -177,11 +177,11 @@ is_carried (Carry SyncGate) = true
 is_carried stage = false
 
 -- the log after the disk call of a stage: a batch whose open gate is durable moves from the owed ones to the log (own)
-abbrev pub log_behind : Log → List (List CommandValue) → CheckpointStage → Log
-log_behind log owed stage = if is_carried stage then log_with log (first_of owed) else log
+abbrev pub log_after : Log → List (List CommandValue) → CheckpointStage → Log
+log_after log owed stage = if is_carried stage then log_with log (first_of owed) else log
 
-abbrev pub owed_behind : {A : Type 0} → List A → CheckpointStage → List A
-owed_behind owed stage = if is_carried stage then behind_first owed else owed
+abbrev pub owed_after : {A : Type 0} → List A → CheckpointStage → List A
+owed_after owed stage = if is_carried stage then all_but_first owed else owed
 
 -- the disk calls of the first owed batch from a phase on, and of the batches after it (format, Orders of disk calls)
 abbrev pub carry_calls_from : Standing → List CommandValue → List (List CommandValue) → Phase → List Call
@@ -199,6 +199,6 @@ stage_calls t owed SyncSlots = snapshot_calls t owed
 stage_calls t owed WriteHeader = header_write t.layout t.area t.epoch t.number ∷ (snapshot_writes t ++ last_calls t owed)
 stage_calls t owed (WriteRecord i) = drop i (snapshot_writes t) ++ last_calls t owed
 stage_calls t owed SyncRecords = last_calls t owed
-stage_calls t owed (Carry p) = carry_calls_from t (first_of owed) (behind_first owed) p
+stage_calls t owed (Carry p) = carry_calls_from t (first_of owed) (all_but_first owed) p
 stage_calls t owed OpenGate = gate_calls t
 stage_calls t owed SyncOpen = sync ∷ []

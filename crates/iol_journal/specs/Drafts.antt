@@ -10,7 +10,7 @@ use Rattle.iol_layout.specs.AreaWrites.{HasWrites}
 use Rattle.iol_journal.specs.Batches.{body_for, sectors_for}
 use Rattle.iol_journal.specs.BegunViews.{BegunView}
 use Rattle.iol_journal.specs.Checkpoints.{target, first_of, with_batches, header_of_target, snapshot_writes, next_stage, IsStage}
-use Rattle.iol_journal.specs.Checkpoints.{log_behind, owed_behind}
+use Rattle.iol_journal.specs.Checkpoints.{log_after, owed_after}
 use Rattle.iol_layout.specs.Header.{header_of}
 use Rattle.iol_layout.specs.Standings.{with_batch, IsResting}
 use Rattle.iol_journal.specs.Planned.{CanFollow}
@@ -90,15 +90,15 @@ StageHolds size s t owed SyncOpen c =
 StageHolds size s t owed stage c = EachImage c (IsKeptAs size s (idle_at stage)) × AreaHolds size t owed stage c
 
 -- the next stage of a checkpoint that writes this area, with these batches owed (own)
-abbrev pub stage_behind : Standing → List (List CommandValue) → CheckpointStage → Option CheckpointStage
-stage_behind t owed stage =
+abbrev pub stage_after : Standing → List (List CommandValue) → CheckpointStage → Option CheckpointStage
+stage_after t owed stage =
     next_stage t.layout.slots (length (snapshot_writes t)) (sectors_for t (first_of owed)) (length owed) stage
 
 -- a checkpoint after its next disk call; `None` if that is its last one (own)
-abbrev pub begun_behind : Standing → BegunView → Option BegunView
-begun_behind s b =
-    option_map (λ stage. record { log = log_behind b.log b.owed b.stage; owed = owed_behind b.owed b.stage; stage = stage })
-    (stage_behind (target s b.log) b.owed b.stage)
+abbrev pub begun_after : Standing → BegunView → Option BegunView
+begun_after s b =
+    option_map (λ stage. record { log = log_after b.log b.owed b.stage; owed = owed_after b.owed b.stage; stage = stage })
+    (stage_after (target s b.log) b.owed b.stage)
 
 -- the gate of the area is not yet written (own)
 abbrev pub can_pause : CheckpointStage → Bool

@@ -21,8 +21,8 @@ pub record LeadsTo (s : Standing) (history : History) : Type 0 where
   pub state : s.state ≡ after history.start history.commands
 
 -- a history after more commands (own)
-abbrev pub written_behind : History → List CommandValue → History
-written_behind history commands = record history { commands = history.commands ++ commands }
+abbrev pub written_after : History → List CommandValue → History
+written_after history commands = record history { commands = history.commands ++ commands }
 
 -- a batch can be written to a journal with this standing: the layout is the newest, the free slots hold the batch, and each
 -- command passes (own)

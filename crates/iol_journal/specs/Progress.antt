@@ -3,7 +3,7 @@ use Rattle.std.specs.Prelude.{◌≡◌, ◌+◌, List, [], Ok, Err}
 use Rattle.std.specs.Option.{option_map}
 use Rattle.iol_disk.specs.Calls.{Call, MakesFirst}
 use Rattle.iol_disk.specs.Disk.{Disk}
-use Rattle.iol_journal.specs.Planned.{written_behind}
+use Rattle.iol_journal.specs.Planned.{written_after}
 use Rattle.iol_journal.specs.Drafts.{with_owed}
 use Rattle.iol_layout.specs.Standings.{with_batch}
 use Rattle.iol_journal.specs.Journals.{JournalView, WritingView, calls_left}
@@ -39,7 +39,7 @@ pub record IsBatchMoved {D : Type 0} (w v : WritingView D) : Type 0 where
 pub record IsBatchDone {D : Type 0} (w : WritingView D) (j : JournalView D) (written : WrittenView) : Type 0 where
   pub standing : j.standing ≡ with_batch w.standing w.commands
   pub idle : j.idle ≡ w.idle
-  pub history : j.history ≡ written_behind w.history w.commands
+  pub history : j.history ≡ written_after w.history w.commands
   pub begun : j.begun ≡ option_map (with_owed w.commands) w.begun
   pub first : written.first ≡ w.standing.number + 1
   pub commands : written.commands ≡ w.commands

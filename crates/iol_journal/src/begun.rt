@@ -4,8 +4,8 @@ ghost use Rattle.std.specs.Prelude.{◌≡◌, ◌≤◌, ◌<◌, ◌+◌, ◌*
 ghost use Rattle.std.specs.VecDeque.{deque_capacity};
 ghost use Rattle.iol_disk.specs.Disk.{Disk};
 ghost use Rattle.iol_journal.specs.BegunParts.{log_of, commands_owed, view_of, IsBegun, IsOwing, AreOwing, HasRoom, AreSame};
-ghost use Rattle.iol_journal.specs.Checkpoints.{target, new_begun, log_behind, owed_behind};
-ghost use Rattle.iol_journal.specs.Drafts.{stage_behind};
+ghost use Rattle.iol_journal.specs.Checkpoints.{target, new_begun, log_after, owed_after};
+ghost use Rattle.iol_journal.specs.Drafts.{stage_after};
 ghost use Rattle.iol_journal.specs.Pauses.{calls_of};
 ghost use Rattle.iol_journal.specs.Parts.{stands};
 ghost use Rattle.iol_layout.specs.Geometry.{IsGeometry};
@@ -96,7 +96,7 @@ impl Begun {
         requires few { slots ≤ 256 }
         requires begun { (d : Disk) × (s : Standing) × IsBegun d s self.now × (slots ≡ (renewed s.layout).slots) }
         ensures { (d : Disk) (s : Standing) → IsBegun d s self.now → slots ≡ (renewed s.layout).slots
-            → result ≡ stage_behind (target s (log_of self.now)) (commands_owed self.now.owed.items) self.now.stage }
+            → result ≡ stage_after (target s (log_of self.now)) (commands_owed self.now.owed.items) self.now.stage }
     {
         let sectors = self.first_sectors();
         self.stage
@@ -109,8 +109,8 @@ impl Begun {
         requires few { slots ≤ 256 }
         requires begun { (d : Disk) × (s : Standing) × IsBegun d s self × (slots ≡ (renewed s.layout).slots) }
         ensures plan { result.plan ≡ self.plan }
-        ensures log { log_of result ≡ log_behind (log_of self) (commands_owed self.owed.items) self.stage }
-        ensures owed { result.owed.items ≡ owed_behind self.owed.items self.stage }
+        ensures log { log_of result ≡ log_after (log_of self) (commands_owed self.owed.items) self.stage }
+        ensures owed { result.owed.items ≡ owed_after self.owed.items self.stage }
         ensures stage { result.stage ≡ next }
     {
         let Begun {

@@ -50,6 +50,6 @@ pub fn pauses()
     ensures migration { may_pause (older_standing_of 2 4) CheckpointStage.CloseGate ≡ false }
     ensures before_the_records { owing (CheckpointStage.WriteRecord 1) ≡ CheckpointStage.WriteRecord 1 }
     ensures before_the_gate { owing CheckpointStage.OpenGate ≡ CheckpointStage.Carry (Phase.Body 0) }
-    ensures behind_the_last { next_stage 4 2 1 1 (CheckpointStage.Carry Phase.SyncGate) ≡ Some CheckpointStage.OpenGate }
-    ensures behind_another { next_stage 4 2 1 2 (CheckpointStage.Carry Phase.SyncGate) ≡ Some (CheckpointStage.Carry (Phase.Body 0)) }
+    ensures after_the_last { next_stage 4 2 1 1 (CheckpointStage.Carry Phase.SyncGate) ≡ Some CheckpointStage.OpenGate }
+    ensures after_another { next_stage 4 2 1 2 (CheckpointStage.Carry Phase.SyncGate) ≡ Some (CheckpointStage.Carry (Phase.Body 0)) }
 {}

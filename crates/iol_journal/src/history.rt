@@ -39,9 +39,9 @@ enum Source<'a> {
 }
 
 impl History {
-    ghost use Rattle.iol_journal.specs.History.{history_of, ended_behind};
+    ghost use Rattle.iol_journal.specs.History.{history_of, ended_after};
     ghost use Rattle.iol_layout.specs.Body.{values};
-    ghost use Rattle.iol_journal.specs.Planned.{written_behind};
+    ghost use Rattle.iol_journal.specs.Planned.{written_after};
 
     /// The history after recovery found this number and state: nothing is written since.
     pub fn begun(number: u64, state: &MasterState) -> History
@@ -52,14 +52,14 @@ impl History {
 
     /// The history with one more batch written.
     pub fn with_batch(&self, batch: &Batch) -> History
-        ensures { result ≡ written_behind self.now (values batch.now.commands.items) }
+        ensures { result ≡ written_after self.now (values batch.now.commands.items) }
     {
         History::read_off(&Source::Continued(self, batch))
     }
 
     /// An empty history that begins where this one leads to, followed by the commands of `batch`.
     pub fn behind(&self, batch: &History) -> History
-        ensures { result ≡ ended_behind self.now batch.now }
+        ensures { result ≡ ended_after self.now batch.now }
     {
         History::read_off(&Source::Ended(self, batch))
     }

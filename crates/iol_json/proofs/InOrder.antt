@@ -26,16 +26,16 @@ abbrev found_at : ℕ → Option Port → List Data
 found_at number port = option_map_or (λ found. port_data number found ∷ []) port []
 
 -- the ports before a place, and then the port at it
-ports_behind : (first place : ℕ) (ports : List Port)
+later_ports : (first place : ℕ) (ports : List Port)
     → ports_data first (take place ports) ++ found_at (first + place) (slice_get ports place) ≡ ports_data first (take (suc place) ports)
-ports_behind first zero [] = refl
-ports_behind first (suc place) [] = refl
-ports_behind first zero (port ∷ ports) =
+later_ports first zero [] = refl
+later_ports first (suc place) [] = refl
+later_ports first zero (port ∷ ports) =
     let same : first + 0 ≡ first = omega arith in ap (λ (n : ℕ). port_data n port ∷ []) same
-ports_behind first (suc place) (port ∷ ports) =
+later_ports first (suc place) (port ∷ ports) =
     let same : first + suc place ≡ first + 1 + place = omega arith in
     ap (λ (n : ℕ). port_data first port ∷ (ports_data (first + 1) (take place ports) ++ found_at n (slice_get ports place))) same
-    ∙ ap (λ (others : List Data). port_data first port ∷ others) (ports_behind (first + 1) place ports)
+    ∙ ap (λ (others : List Data). port_data first port ∷ others) (later_ports (first + 1) place ports)
 
 -- the ports of a state before a number, and then the port with that number
 pub ports_next : (number : ℕ) (state : State) → 1 ≤ number
@@ -48,4 +48,4 @@ ports_next (suc place) state some =
     ap (λ (found : Bool). ports_data 1 (take (suc place - 1) state)
     ++ found_at (suc place) (if found then slice_get state (suc place - 1) else None)) there
     ∙ ap (λ (i : ℕ). ports_data 1 (take i state) ++ found_at (suc place) (slice_get state i)) before
-    ∙ ap (λ (n : ℕ). ports_data 1 (take place state) ++ found_at n (slice_get state place)) here ∙ ports_behind 1 place state
+    ∙ ap (λ (n : ℕ). ports_data 1 (take place state) ++ found_at n (slice_get state place)) here ∙ later_ports 1 place state

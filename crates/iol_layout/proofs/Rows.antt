@@ -49,8 +49,8 @@ has-append [] second image has = (tt, has)
 has-append (write sector octets ∷ first) second image has = let rest = has-append first second image has.1 in ((has.0, rest.0), rest.1)
 has-append (sync ∷ first) second image has = has-append first second image has
 
-at_or_behind : (s k : ℕ) → s ≤ k → (s ≡ k) ⊎ (s + 1 ≤ k)
-at_or_behind s k from = elim (cases_lt s k) [
+at_or_after : (s k : ℕ) → s ≤ k → (s ≡ k) ⊎ (s + 1 ≤ k)
+at_or_after s k from = elim (cases_lt s k) [
   | inl before ↦ inr (omega (arith, before))
   | inr here ↦ inl (omega (arith, here, from))
 ]
@@ -60,7 +60,7 @@ pub has-map : (place : ℕ → ℕ) (octets : ℕ → List ℕ) (s n : ℕ) (ima
     → (k : ℕ) → s ≤ k → k < s + n → image (place k) ≡ octets k
 has-map place octets s zero image has k from below = absurd (omega (arith, from, below))
 has-map place octets s (suc n) image has k from below =
-    by_place (at_or_behind s k from) (λ later. has-map place octets (s + 1) n image has.1 k later (omega (arith, below)))
+    by_place (at_or_after s k from) (λ later. has-map place octets (s + 1) n image has.1 k later (omega (arith, below)))
   where
     by_place : (s ≡ k) ⊎ (s + 1 ≤ k) → (s + 1 ≤ k → image (place k) ≡ octets k) → image (place k) ≡ octets k
     by_place (inl here) rest = subst (λ (i : ℕ). image (place i) ≡ octets i) here has.0

@@ -158,7 +158,7 @@ pub fn counts_of_answers()
         ≡ replicate 3 (Some IsduFault.Length) }
     ensures carried { map answer_fault ((0x53 ∷ 0x00 ∷ 0x53 ∷ []) ∷ (0x43 ∷ 0x80 ∷ 0xC3 ∷ []) ∷ (0xC3 ∷ 0x80 ∷ 0x43 ∷ [])
         ∷ (0x45 ∷ 0x80 ∷ 0x11 ∷ 0x00 ∷ 0xD4 ∷ []) ∷ (0xC5 ∷ 0x80 ∷ 0x11 ∷ 0x00 ∷ 0x54 ∷ []) ∷ []) ≡ replicate 5 (Some IsduFault.Length) }
-    ensures behind_busy { answer_fault (0x01 ∷ 0x01 ∷ []) ≡ Some IsduFault.Length }
+    ensures more_than_busy { answer_fault (0x01 ∷ 0x01 ∷ []) ≡ Some IsduFault.Length }
     ensures of_233_data_octets { (rest : List ℕ) → length rest ≡ 234
         → answer_fault (0xD1 ∷ 0xEC ∷ rest) ≡ Some IsduFault.Length }
     ensures of_235_data_octets { (rest : List ℕ) → length rest ≡ 236

@@ -74,7 +74,7 @@ pub fn live_on_disk<
         return Err(Fault::Fit);
     }
     let front = Front::new(alloc, journal.number(), &state)?;
-    live_behind::<D, Brand, E, R>(rt, alloc, front, journal, state, script, telling, err)
+    live_with_front::<D, Brand, E, R>(rt, alloc, front, journal, state, script, telling, err)
 }
 
 // Returns whether each device is at one of this number of ports.
@@ -85,7 +85,7 @@ fn fits(devices: &[Device], ports: u8) -> bool
 }
 
 // Runs a master over a journal that was just recovered, under the name of a front that starts with it.
-fn live_behind<
+fn live_with_front<
     D: SectorDisk + Drop + Send + 'static,
     F: Name + 'static,
     E: Write,

@@ -13,9 +13,9 @@ use Rattle.iol_master.specs.declared.client.CallFault.TheVariants as call
 use Rattle.iol_master.specs.Receipts.{IsReceiptFor, StandsAt}
 
 module _ {A : Type 0} where
-  got_behind : (xs ys : List A) (i : ℕ) → slice_get (xs ++ ys) (length xs + i) ≡ slice_get ys i
-  got_behind [] ys i = ap (slice_get ys) (zero-add i)
-  got_behind (x ∷ xs) ys i = rw suc-add (got_behind xs ys i)
+  got_after : (xs ys : List A) (i : ℕ) → slice_get (xs ++ ys) (length xs + i) ≡ slice_get ys i
+  got_after [] ys i = ap (slice_get ys) (zero-add i)
+  got_after (x ∷ xs) ys i = rw suc-add (got_after xs ys i)
 
   got_before : (xs ys : List A) (i : ℕ) (x : A) → slice_get xs i ≡ Some x → slice_get (xs ++ ys) i ≡ Some x
   got_before [] ys i x is = absurd cc
@@ -48,7 +48,7 @@ stands_at start before commands seen number place command shown at is =
       above = omega (arith, is);
       there =
           ap (slice_get seen) here
-          ∙ got_in (before ++ commands) seen (length before + place) command shown (got_behind before commands place ∙ at);
+          ∙ got_in (before ++ commands) seen (length before + place) command shown (got_after before commands place ∙ at);
     }
 
 -- the number of a command is not above that of the last command of its list

@@ -123,18 +123,18 @@ taken_at (suc n) zero (x ∷ xs) below = refl
 taken_at (suc n) (suc place) (x ∷ xs) below = taken_at n place xs (omega (arith, below))
 
 -- the first item of what is left from a place on is the item at that place
-pub first_behind : {A : Type 0} (xs : List A) (place : ℕ) (x : A) (rest : List A) → drop place xs ≡ x ∷ rest
+pub first_after : {A : Type 0} (xs : List A) (place : ℕ) (x : A) (rest : List A) → drop place xs ≡ x ∷ rest
     → slice_get xs place ≡ Some x
-first_behind [] zero x rest is = absurd (no_first is)
+first_after [] zero x rest is = absurd (no_first is)
   where
     no_first : [] ≡ x ∷ rest → ⊥
     no_first wrong = cc
-first_behind [] (suc n) x rest is = absurd (no_first is)
+first_after [] (suc n) x rest is = absurd (no_first is)
   where
     no_first : [] ≡ x ∷ rest → ⊥
     no_first wrong = cc
-first_behind (y ∷ ys) zero x rest is = ap (λ (l : List _). slice_get l 0) is
-first_behind (y ∷ ys) (suc n) x rest is = first_behind ys n x rest is
+first_after (y ∷ ys) zero x rest is = ap (λ (l : List _). slice_get l 0) is
+first_after (y ∷ ys) (suc n) x rest is = first_after ys n x rest is
 
 -- a call that succeeds returns no error
 pub not_taken : {A E : Type 0} (answer : Result A E) (why : E) → IsOk answer → answer ≡ Err why → ⊥

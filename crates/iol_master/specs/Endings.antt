@@ -7,7 +7,7 @@ use Rattle.iol_journal.specs.Journals.{JournalView}
 use Rattle.iol_journal.specs.Kept.{EachMeans}
 use Rattle.iol_journal.specs.Layout.{is_renewed}
 use Rattle.iol_flush.specs.Flushing.{Rests}
-use Rattle.iol_flush.specs.Stages.{StandsBehind, names_batch, need_of}
+use Rattle.iol_flush.specs.Stages.{StandsAfter, names_batch, need_of}
 use Rattle.iol_flush.specs.declared.flusher.FlushEnd.{FlushEnd}
 use Rattle.iol_flush.specs.declared.flusher.FlushEnd.TheVariants as flush
 use Rattle.iol_flush.specs.declared.need.Need.TheVariants as need
@@ -64,7 +64,7 @@ HasWaited (Ended leaves) before after = Unit {0}
 -- published commands (own)
 pub record IsWhole {D : Type 0} (disk : D → Disk) (start : Start) (first last : JournalView D) (published : List CommandValue) : Type 0
   where
-    pub behind : StandsBehind start published last.standing last.history
+    pub behind : StandsAfter start published last.standing last.history
     pub images : Rests disk first → EachMeans (disk last.disk) last.standing.number last.standing.state
 
 -- a flusher that was given a journal has ended: all that it wrote is published, or a disk call has failed (own)

@@ -29,7 +29,7 @@ use Rattle.iol_transfer.specs.Command.{commanded}
 use Rattle.iol_port.specs.Calls.{BeginUpload, FinishUpload, BeginDownload}
 use Rattle.iol_port.proofs.Stages.{ExchangingIs, StageIs}
 use Rattle.iol_transfer.specs.Asked.{IsNext}
-use Rattle.iol_transfer.specs.Download.{IsSending, behind_of}
+use Rattle.iol_transfer.specs.Download.{IsSending, later_writes}
 use Rattle.iol_transfer.proofs.Feeding.{next-is}
 use Rattle.iol_port.specs.Laws.{held_by}
 use Rattle.iol_port.proofs.Fitting.{fits}
@@ -172,7 +172,7 @@ sending : (set : SetValue) (conversation : List Exchange) (download : Sender) â†
     â†’ IsSending set conversation (sent_by download.sends) download.busy
 sending set conversation download since = record {
   sent = since.sent;
-  left = behind_of set download.sends;
+  left = later_writes set download.sends;
   before = since.before;
   order = since.order;
   is = since.is;

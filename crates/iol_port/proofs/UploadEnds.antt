@@ -10,7 +10,7 @@ use Rattle.iol_transfer.specs.declared.command.DsCommand.TheVariants as command
 use Rattle.iol_transfer.specs.Asked.{Asks, Start, Size, IndexList, Value, Checksum, request_of}
 use Rattle.iol_transfer.specs.Command.{commanded}
 use Rattle.iol_transfer.specs.Exchanges.{Exchange}
-use Rattle.iol_transfer.specs.Download.{Sender, entry_written, writes_of, order_of, sent_by, behind_of, IsDownloading}
+use Rattle.iol_transfer.specs.Download.{Sender, entry_written, writes_of, order_of, sent_by, later_writes, IsDownloading}
 
 -- a request is not DS_UploadEnd
 abbrev pub IsOther : Request → Type 0
@@ -80,4 +80,4 @@ middle (one ∷ front) behind request all = middle front behind request all.1
 pub sends_other : (set : SetValue) (conversation : List Exchange) (download : Sender) → IsSet set → IsDownloading set conversation download
     → IsOther (sent_by download.sends)
 sends_other set conversation download is since =
-    middle since.sent (behind_of set download.sends) (sent_by download.sends) (subst AreOthers since.order (order_other set is))
+    middle since.sent (later_writes set download.sends) (sent_by download.sends) (subst AreOthers since.order (order_other set is))

@@ -123,11 +123,11 @@ has_tag Two (Store port revision set) is = refl
 has_tag One (Rollback port) is = absurd is
 has_tag Two (Rollback port) is = refl
 
-spelled_behind : (version : Version) (command : CommandValue) → SpellsCommand version command → SpellsArguments version command
-spelled_behind version (Configure port config) is = is
-spelled_behind version (Clear port) is = tt
-spelled_behind version (Store port revision set) is = tt
-spelled_behind version (Rollback port) is = tt
+spelled_after : (version : Version) (command : CommandValue) → SpellsCommand version command → SpellsArguments version command
+spelled_after version (Configure port config) is = is
+spelled_after version (Clear port) is = tt
+spelled_after version (Store port revision set) is = tt
+spelled_after version (Rollback port) is = tt
 
 -- and it spells a command if it has the tag and spells what follows it
 spelled_whole : (version : Version) (command : CommandValue) → HasTag version (tag_of_command command) → SpellsArguments version command
@@ -144,7 +144,7 @@ command_reads version =
     followed_reads _ (arguments_at version) _ (arguments_octets version) (command_octets version) _ (IsTagged version)
     (IsCommandIn version)
     (record {
-      first = λ command is. (tag_of_command command, has_tag version command is.1, (refl, (is.0, spelled_behind version command is.1)));
+      first = λ command is. (tag_of_command command, has_tag version command is.1, (refl, (is.0, spelled_after version command is.1)));
       spelled = λ t command is. tagged command ∙ ap (λ (other : Tag). tag_octet other ∷ arguments_octets version command) is.0;
       in_range = λ t command has is. (is.1.0, spelled_whole version command (subst (HasTag version) (sym is.0) has) is.1.1);
     })

@@ -22,9 +22,9 @@ is_stored None = false
 is_stored (Some stored) = true
 
 -- the octets after the flag
-abbrev behind_flag : Version → Option Stored → List ℕ
-behind_flag version None = []
-behind_flag version (Some stored) = config_octets version stored.recorded ++ set_octets stored.set
+abbrev after_flag : Version → Option Stored → List ℕ
+after_flag version None = []
+after_flag version (Some stored) = config_octets version stored.recorded ++ set_octets stored.set
 
 -- the stored set, if there is one, is in range and a version spells it
 abbrev AreStored : Version → Option Stored → Type 0
@@ -36,10 +36,10 @@ IsFlagged version flag stored = (is_stored stored ≡ flag) × AreStored version
 abbrev stored_of : PortConfig × SetValue → Option Stored
 stored_of parts = Some (record { set = parts.1; recorded = parts.0 })
 
-set_stored_reads : (version : Version) → IsReader (stored_at version true) (behind_flag version) (IsFlagged version true)
+set_stored_reads : (version : Version) → IsReader (stored_at version true) (after_flag version) (IsFlagged version true)
 unfolding stored_at
 set_stored_reads version =
-    joined_reads stored_of _ _ (behind_flag version) _ (IsFlagged version true)
+    joined_reads stored_of _ _ (after_flag version) _ (IsFlagged version true)
     (record { made = made; spelled = λ parts. refl; in_range = λ parts is. (refl, is) })
     (both_reads _ _ _ _ _ _ (config_reads version) set_reads)
   where
@@ -48,7 +48,7 @@ set_stored_reads version =
     made None is = let other = is.0 in cc
     made (Some stored) is = ((stored.recorded, stored.set), refl, is.1)
 
-nothing_stored_reads : (version : Version) → IsReader (stored_at version false) (behind_flag version) (IsFlagged version false)
+nothing_stored_reads : (version : Version) → IsReader (stored_at version false) (after_flag version) (IsFlagged version false)
 unfolding stored_at
 nothing_stored_reads version = record {
   again = again;
@@ -60,30 +60,30 @@ nothing_stored_reads version = record {
     nothing = nothing_reads None
 
     again : (stored : Option Stored) (rest : List ℕ) → IsFlagged version false stored
-        → stored_at version false (behind_flag version stored ++ rest) ≡ Ok (stored, rest)
+        → stored_at version false (after_flag version stored ++ rest) ≡ Ok (stored, rest)
     again None rest is = refl
     again (Some stored) rest is = let other = is.0 in cc
 
     taken : (octets : List ℕ) (stored : Option Stored) (rest : List ℕ) → Splits octets [] rest × (stored ≡ None)
-        → Splits octets (behind_flag version stored) rest × IsFlagged version false stored
+        → Splits octets (after_flag version stored) rest × IsFlagged version false stored
     taken octets None rest is = (is.0, (refl, tt))
     taken octets (Some stored) rest is = let other = is.1 in cc
 
-stored_reads : (version : Version) (flag : Bool) → IsReader (stored_at version flag) (behind_flag version) (IsFlagged version flag)
+stored_reads : (version : Version) (flag : Bool) → IsReader (stored_at version flag) (after_flag version) (IsFlagged version flag)
 stored_reads version true = set_stored_reads version
 stored_reads version false = nothing_stored_reads version
 
 flagged_reads : (version : Version) → IsReader (flagged_at version) (stored_octets version) (AreStored version)
 flagged_reads version =
-    followed_reads _ (stored_at version) _ (behind_flag version) (stored_octets version) _ (IsFlagged version) (AreStored version)
+    followed_reads _ (stored_at version) _ (after_flag version) (stored_octets version) _ (IsFlagged version) (AreStored version)
     (record {
       first = λ stored is. (is_stored stored, tt, (refl, is));
-      spelled = λ flag stored is. flagged stored ∙ ap (λ (other : Bool). flag_octet other ∷ behind_flag version stored) is.0;
+      spelled = λ flag stored is. flagged stored ∙ ap (λ (other : Bool). flag_octet other ∷ after_flag version stored) is.0;
       in_range = λ flag stored _ is. is.1;
     })
     (field_reads _ _ _ flag_reads) (stored_reads version)
   where
-    flagged : (stored : Option Stored) → stored_octets version stored ≡ flag_octet (is_stored stored) ∷ behind_flag version stored
+    flagged : (stored : Option Stored) → stored_octets version stored ≡ flag_octet (is_stored stored) ∷ after_flag version stored
     flagged None = refl
     flagged (Some stored) = refl
 

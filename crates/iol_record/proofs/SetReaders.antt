@@ -42,11 +42,11 @@ module _ (others : List Entry) where
   abbrev HasKey : Key → Entry → Type 0
   HasKey key entry = (entry.0 ≡ key) × IsLength others (length entry.1)
 
-  abbrev behind_key : Key → Reading Entry
-  behind_key key = followed (field_at (length_field others)) (λ count. joined (λ octets. (key, octets)) (octets_at count))
+  abbrev after_key : Key → Reading Entry
+  after_key key = followed (field_at (length_field others)) (λ count. joined (λ octets. (key, octets)) (octets_at count))
 
-  behind_key_reads : (key : Key) → IsReader (behind_key key) (λ (entry : Entry). length entry.1 ∷ entry.1) (HasKey key)
-  behind_key_reads key =
+  after_key_reads : (key : Key) → IsReader (after_key key) (λ (entry : Entry). length entry.1 ∷ entry.1) (HasKey key)
+  after_key_reads key =
       followed_reads _ _ _ (λ (entry : Entry). entry.1) _ _ (IsOf key) (HasKey key)
       (record {
         first = λ entry is. (length entry.1, is.1, (is.0, refl));
@@ -59,19 +59,19 @@ module _ (others : List Entry) where
   abbrev HasIndex : ℕ → Entry → Type 0
   HasIndex index entry = IsNewKey others index entry.0 × IsLength others (length entry.1)
 
-  abbrev behind_index : ℕ → Reading Entry
-  behind_index index = followed (field_at (subindex_field others index)) behind_key
+  abbrev after_index : ℕ → Reading Entry
+  after_index index = followed (field_at (subindex_field others index)) after_key
 
-  behind_index_reads : (index : ℕ)
-      → IsReader (behind_index index) (λ (entry : Entry). entry.0.subindex ∷ length entry.1 ∷ entry.1) (HasIndex index)
-  behind_index_reads index =
-      followed_reads _ behind_key _ (λ (entry : Entry). length entry.1 ∷ entry.1) _ _ HasKey (HasIndex index)
+  after_index_reads : (index : ℕ)
+      → IsReader (after_index index) (λ (entry : Entry). entry.0.subindex ∷ length entry.1 ∷ entry.1) (HasIndex index)
+  after_index_reads index =
+      followed_reads _ after_key _ (λ (entry : Entry). length entry.1 ∷ entry.1) _ _ HasKey (HasIndex index)
       (record {
         first = λ entry is. (entry.0, is.0, (refl, is.1));
         spelled = λ key entry is. ap (λ (k : Key). k.subindex ∷ length entry.1 ∷ entry.1) is.0;
         in_range = λ key entry new is. (subst (IsNewKey others index) (sym is.0) new, is.1);
       })
-      (field_reads _ _ _ (subindex_reads others index)) behind_key_reads
+      (field_reads _ _ _ (subindex_reads others index)) after_key_reads
 
   -- an entry that the others allow
   abbrev pub IsNext : Entry → Type 0
@@ -80,13 +80,13 @@ module _ (others : List Entry) where
   pub entry_reads : IsReader (entry_at others) entry_octets IsNext
   unfolding entry_at
   entry_reads =
-      followed_reads _ behind_index _ (λ (entry : Entry). entry.0.subindex ∷ length entry.1 ∷ entry.1) _ _ HasIndex IsNext
+      followed_reads _ after_index _ (λ (entry : Entry). entry.0.subindex ∷ length entry.1 ∷ entry.1) _ _ HasIndex IsNext
       (record {
         first = λ entry is. (entry.0.index, is.0, is.1);
         spelled = λ index entry is. ap (λ (i : ℕ). to_be_bytes w16 i ++ (entry.0.subindex ∷ length entry.1 ∷ entry.1)) is.0.has_index;
         in_range = λ index entry free is. allowed index entry free is;
       })
-      (field_reads _ _ _ index_reads) behind_index_reads
+      (field_reads _ _ _ index_reads) after_index_reads
     where
       allowed : (index : ℕ) (entry : Entry) → IsFreeIndex index → HasIndex index entry → IsNext entry
       allowed index entry free is =
@@ -142,7 +142,7 @@ entries_read (suc count) others =
     followed_reads (entry_at others) (behind count others) entry_octets (λ more. all_octets (rest_of more)) all_octets _
     (IsBegunBy count others) (AreSoMany (suc count) others)
     (record { first = first; spelled = spelled; in_range = in_range }) (entry_reads others) (λ entry.
-    behind_reads entry (entries_read count (others ++ entry ∷ [])))
+    after_reads entry (entries_read count (others ++ entry ∷ [])))
   where
     first : (all : List Entry) → AreSoMany (suc count) others all → (entry : Entry) × IsNext others entry × IsBegunBy count others entry all
     first [] is = absurd (omega (arith, is.0))
@@ -156,9 +156,9 @@ entries_read (suc count) others =
         → AreSoMany (suc count) others all
     in_range entry all next is = rw is.1 (omega (arith, is.2.0), (next, is.2.1))
 
-    behind_reads : (entry : Entry) → IsReader (entries_at count (others ++ entry ∷ [])) all_octets (AreSoMany count (others ++ entry ∷ []))
+    after_reads : (entry : Entry) → IsReader (entries_at count (others ++ entry ∷ [])) all_octets (AreSoMany count (others ++ entry ∷ []))
         → IsReader (behind count others entry) (λ more. all_octets (rest_of more)) (IsBegunBy count others entry)
-    behind_reads entry reads =
+    after_reads entry reads =
         joined_reads (λ (more : List Entry). entry ∷ more) _ all_octets _ _ (IsBegunBy count others entry)
         (record {
           made = λ all is. (is.0, sym is.1, is.2);
@@ -223,11 +223,11 @@ head_reads =
 abbrev HasHead : SetHead → SetValue → Type 0
 HasHead head set = (entries : List Entry) × (set ≡ set_with head entries) × AreSoMany head.count [] entries
 
-abbrev behind_head : SetHead → Reading SetValue
-behind_head head = joined (set_with head) (entries_at head.count [])
+abbrev after_head : SetHead → Reading SetValue
+after_head head = joined (set_with head) (entries_at head.count [])
 
-behind_head_reads : (head : SetHead) → IsReader (behind_head head) (λ set. all_octets set.entries) (HasHead head)
-behind_head_reads head =
+after_head_reads : (head : SetHead) → IsReader (after_head head) (λ set. all_octets set.entries) (HasHead head)
+after_head_reads head =
     joined_reads (set_with head) _ all_octets _ _ (HasHead head)
     (record {
       made = λ set is. (is.0, sym is.1, is.2);
@@ -239,8 +239,8 @@ behind_head_reads head =
 pub set_reads : IsReader set_at set_octets IsSet
 unfolding set_at
 set_reads =
-    followed_reads set_head_at behind_head head_octets (λ set. all_octets set.entries) set_octets IsHead HasHead IsSet
-    (record { first = first; spelled = spelled; in_range = in_range }) head_reads behind_head_reads
+    followed_reads set_head_at after_head head_octets (λ set. all_octets set.entries) set_octets IsHead HasHead IsSet
+    (record { first = first; spelled = spelled; in_range = in_range }) head_reads after_head_reads
   where
     first : (set : SetValue) → IsSet set → (head : SetHead) × IsHead head × HasHead head set
     first set is =

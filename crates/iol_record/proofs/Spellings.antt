@@ -27,14 +27,14 @@ no_more (text ∷ texts) zero none below = cc
 no_more (text ∷ texts) (suc place) none below = no_more texts place none (omega (arith, below))
 
 -- three texts written in order
-pub three_behind : (old first second third : List ℕ) {one two three : List ℕ} → one ≡ old ++ first → two ≡ one ++ second → three ≡ two
+pub three_after : (old first second third : List ℕ) {one two three : List ℕ} → one ≡ old ++ first → two ≡ one ++ second → three ≡ two
     ++ third
     → three ≡ old ++ (first ++ (second ++ third))
-three_behind old first second third is_one is_two is_three =
+three_after old first second third is_one is_two is_three =
     is_three ∙ ap (λ front. front ++ third) (is_two ∙ ap (λ front. front ++ second) is_one)
     ∙ append_assoc (old ++ first) second third ∙ append_assoc old first (second ++ third)
 
 -- two texts written in order
-pub two_behind : (old first second : List ℕ) {one two : List ℕ} → one ≡ old ++ first → two ≡ one ++ second → two ≡ old ++ (first ++ second)
-two_behind old first second is_one is_two =
+pub two_after : (old first second : List ℕ) {one two : List ℕ} → one ≡ old ++ first → two ≡ one ++ second → two ≡ old ++ (first ++ second)
+two_after old first second is_one is_two =
     is_two ∙ ap (λ front. front ++ second) is_one ∙ append_assoc old first second

@@ -259,13 +259,13 @@ unfoldable pub set_begun_at : Reading (List Entry)
 set_begun_at = followed set_head_at (λ head. entries_at (min 1 head.count) [])
 
 -- the reading of a Store up to the first entry of its set; no other command has a set (format, Records)
-unfoldable pub begun_behind : Tag → Reading (List Entry)
-begun_behind tag.Store octets =
+unfoldable pub begun_after : Tag → Reading (List Entry)
+begun_after tag.Store octets =
     followed (field_at port_field) (λ port. followed (field_at revision_field) (λ revision. set_begun_at)) octets
-begun_behind other octets = Err BadTag
+begun_after other octets = Err BadTag
 
 unfoldable pub store_begun_at : Version → Reading (List Entry)
-store_begun_at version = followed (field_at (tag_field version)) begun_behind
+store_begun_at version = followed (field_at (tag_field version)) begun_after
 
 -- the reading of a set of a port up to its first entry, by its flag (format, Records)
 unfoldable pub stored_begun_at : Version → Bool → Reading (List Entry)

@@ -254,7 +254,7 @@ pub fn faults_from_the_left()
 
 /// What follows a record is left unread.
 #[tactic(auto, unfolding(crate::specs::Reading::command_at, crate::specs::Reading::arguments_at, crate::specs::Reading::port_record_at, crate::specs::Reading::port_parts_at, crate::specs::Reading::stored_at, crate::specs::Reading::previous_at, crate::specs::Reading::config_at, crate::specs::Reading::label_at))]
-pub fn octets_behind_a_record()
+pub fn octets_after_a_record()
     ensures clear { command_at One (CLEAR_RECORD ++ 0xFF ∷ []) ≡ Ok (Clear 1, 0xFF ∷ []) }
     ensures configure { command_at One (CONFIGURE_RECORD ++ 0xFF ∷ []) ≡ Ok (Configure 1 example_config, 0xFF ∷ []) }
     ensures port { port_record_at One (PORT_RECORD ++ 0xFF ∷ [])
@@ -264,7 +264,7 @@ pub fn octets_behind_a_record()
 /// Memory may run out in a Store and in a port's record once the first entry is complete, which ends at octets 28 and
 /// 43, and not before; without a set it does not. In a port with only a previous set, the first entry of that set is
 /// meant.
-#[tactic(auto, unfolding(crate::specs::Reading::store_begun_at, crate::specs::Reading::begun_behind, crate::specs::Reading::port_begun_at, crate::specs::Reading::first_begun_at, crate::specs::Reading::previous_begun_at, crate::specs::Reading::stored_begun_at, crate::specs::Reading::set_begun_at, crate::specs::Reading::config_at, crate::specs::Reading::label_at, crate::specs::Reading::set_head_at, crate::specs::Reading::entry_at))]
+#[tactic(auto, unfolding(crate::specs::Reading::store_begun_at, crate::specs::Reading::begun_after, crate::specs::Reading::port_begun_at, crate::specs::Reading::first_begun_at, crate::specs::Reading::previous_begun_at, crate::specs::Reading::stored_begun_at, crate::specs::Reading::set_begun_at, crate::specs::Reading::config_at, crate::specs::Reading::label_at, crate::specs::Reading::set_head_at, crate::specs::Reading::entry_at))]
 pub fn records_that_take_memory()
     ensures store { IsOk (store_begun_at One (take 28 STORE_RECORD)) }
     ensures store_before { store_begun_at One (take 27 STORE_RECORD) ≡ Err RecordFault.Short }

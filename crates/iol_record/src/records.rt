@@ -5,7 +5,7 @@ ghost use Rattle.iol_types.specs.Command.{value_of};
 ghost use Rattle.iol_types.specs.DataSet.{Entry};
 ghost use Rattle.iol_types.specs.Port.{stored_of};
 ghost use Rattle.iol_record.specs.Reading.{Reads, ReadsOrMemory, IsReadFault, entry_at, entries_at, flagged_at, flagged_begun_at};
-ghost use Rattle.iol_record.specs.Reading.{set_head_at, set_at, set_begun_at, arguments_at, begun_behind, command_at, store_begun_at};
+ghost use Rattle.iol_record.specs.Reading.{set_head_at, set_at, set_begun_at, arguments_at, begun_after, command_at, store_begun_at};
 ghost use Rattle.iol_record.specs.Reading.{previous_at, previous_begun_at, both, sets_begun_at, port_record_at, port_begun_at};
 ghost use Rattle.iol_record.specs.declared.reader.Tag.TheVariants as tag;
 ghost use Rattle.iol_record.specs.declared.version.Version.TheVariants.{One};
@@ -97,10 +97,10 @@ impl<'a> Reader<'a> {
     }
 
     // Reads what follows the tag of a Store.
-    #[tactic(auto, unfolding(crate::specs::Reading::arguments_at, crate::specs::Reading::begun_behind))]
+    #[tactic(auto, unfolding(crate::specs::Reading::arguments_at, crate::specs::Reading::begun_after))]
     fn store(&mut self, alloc: Global) -> Result<Command, RecordFault>
         // A Store is spelled the same in every version.
-        ensures { ReadsOrMemory (λ command. (value_of command, self.new)) (begun_behind tag.Store self.old) result
+        ensures { ReadsOrMemory (λ command. (value_of command, self.new)) (begun_after tag.Store self.old) result
             (arguments_at One tag.Store self.old) }
     {
         Ok(Command::Store {
@@ -111,7 +111,7 @@ impl<'a> Reader<'a> {
     }
 
     // Reads the record of a command.
-    #[tactic(auto, unfolding(crate::specs::Reading::command_at, crate::specs::Reading::store_begun_at, crate::specs::Reading::arguments_at, crate::specs::Reading::begun_behind, crate::specs::Reading::config_at))]
+    #[tactic(auto, unfolding(crate::specs::Reading::command_at, crate::specs::Reading::store_begun_at, crate::specs::Reading::arguments_at, crate::specs::Reading::begun_after, crate::specs::Reading::config_at))]
     pub(crate) fn command(
         &mut self,
         alloc: Global,

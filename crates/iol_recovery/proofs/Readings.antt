@@ -6,15 +6,15 @@ use Rattle.iol_layout.specs.Meaning.{Cause}
 use Rattle.iol_recovery.specs.Reading.{SaysWhy}
 use Rattle.iol_recovery.specs.declared.cause.RecoverCause.{RecoverCause}
 use Rattle.iol_recovery.specs.declared.cause.RecoverCause.TheVariants as cause
-use Rattle.iol_disk.proofs.Unchanged.{failed_behind}
+use Rattle.iol_disk.proofs.Unchanged.{failed_after}
 
-pub counted_behind : (T : Type 0) (told : RecoverCause) (old mid new : Disk) → mid.failures ≡ old.failures
+pub counted_after : (T : Type 0) (told : RecoverCause) (old mid new : Disk) → mid.failures ≡ old.failures
     → Counted {T = T} mid new (Err told) → Counted {T = T} old new (Err told)
-counted_behind T (cause.Disk fault) old mid new quiet counted = (counted.0, failed_behind old mid new quiet counted.1)
-counted_behind T cause.NotFormatted old mid new quiet counted = counted ∙ quiet
-counted_behind T cause.TooSmall old mid new quiet counted = counted ∙ quiet
-counted_behind T (cause.Damaged sector) old mid new quiet counted = counted ∙ quiet
-counted_behind T cause.Memory old mid new quiet counted = counted ∙ quiet
+counted_after T (cause.Disk fault) old mid new quiet counted = (counted.0, failed_after old mid new quiet counted.1)
+counted_after T cause.NotFormatted old mid new quiet counted = counted ∙ quiet
+counted_after T cause.TooSmall old mid new quiet counted = counted ∙ quiet
+counted_after T (cause.Damaged sector) old mid new quiet counted = counted ∙ quiet
+counted_after T cause.Memory old mid new quiet counted = counted ∙ quiet
 
 -- a fault of the disk or of memory says nothing about what is read
 pub fault-says_nothing : {Y : Type 0} (read : Result Y Cause) (told : RecoverCause) → IsFault told → SaysWhy read told

@@ -276,10 +276,10 @@ module _ (first : ℕ) (start : State) where
       answers : AnswersClients first start old.events (clients_of made) more
       stands : Stands first start new.events new.master.core
 
-    clients_behind : (step : Step) (made : List Step) → clients_of (step ∷ made) ≡ clients_of (step ∷ []) ++ clients_of made
-    clients_behind (Client change) made = refl
-    clients_behind (Port port) made = refl
-    clients_behind Flush made = refl
+    clients_after : (step : Step) (made : List Step) → clients_of (step ∷ made) ≡ clients_of (step ∷ []) ++ clients_of made
+    clients_after (Client change) made = refl
+    clients_after (Port port) made = refl
+    clients_after Flush made = refl
 
     steps_answer : (made : List Step) (waits : ℕ) (old new : RunView D L) → HasMade disk number steps made waits old new
         → Stands first start old.events old.master.core → Knows old.events old.master.core → HasAnswered made old new
@@ -307,7 +307,7 @@ module _ (first : ℕ) (start : State) where
               ∙ (ap (λ (ss : List Stamp). ss ++ behind.more) did.2 ∙ append_assoc old.events now behind.more);
           answers =
               subst (λ (cs : List CommandValue). AnswersClients first start old.events cs (now ++ behind.more))
-              (sym (clients_behind step rest))
+              (sym (clients_after step rest))
               (answers_join old.events now behind.more (clients_of (step ∷ [])) (clients_of rest)
               (step_answers t old.events step old.master mid.master old.ports mid.ports did.0 made.0 did.1 stands knows)
               (subst (λ (ss : List Stamp). AnswersClients first start ss (clients_of rest) behind.more) did.2 behind.answers));

@@ -72,9 +72,9 @@ module _ {D : Type 0} where
       subst (λ (c : CoreView). IsInStep start c flusher committed) (sym is.1) was
 
 -- the queue without the batch in flight is what waits after it
-pub behind_flight : (core : CoreView) (commands : List CommandValue) (is : IsInFlight core commands) → drop (length commands) core.queue
+pub after_flight : (core : CoreView) (commands : List CommandValue) (is : IsInFlight core commands) → drop (length commands) core.queue
     ≡ is.behind
-behind_flight core commands is = ap (drop (length commands)) is.queue ∙ drop-append_seam commands is.behind
+after_flight core commands is = ap (drop (length commands)) is.queue ∙ drop-append_seam commands is.behind
 
 -- if a batch is published and not yet acknowledged, the published list and what waits after it are the list before it and the queue
 pub all_of : (core : CoreView) (published before commands : List CommandValue) → published ≡ before ++ commands
@@ -82,7 +82,7 @@ pub all_of : (core : CoreView) (published before commands : List CommandValue) �
     → published ++ drop (length commands) core.queue ≡ before ++ core.queue
 all_of core published before commands same is =
     ap (λ (cs : List CommandValue). cs ++ drop (length commands) core.queue) same
-    ∙ (ap (λ (cs : List CommandValue). (before ++ commands) ++ cs) (behind_flight core commands is)
+    ∙ (ap (λ (cs : List CommandValue). (before ++ commands) ++ cs) (after_flight core commands is)
     ∙ (append_assoc before commands is.behind ∙ ap (λ (cs : List CommandValue). before ++ cs) (sym is.queue)))
 
 -- the live state is that after all commands that were accepted

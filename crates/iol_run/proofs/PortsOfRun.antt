@@ -29,12 +29,12 @@ use Rattle.iol_run.specs.declared.step.Step.{Step}
 use Rattle.iol_run.specs.declared.step.Step.TheVariants.{Client, Port, Flush}
 
 -- with one more step, a port has made the steps that it had made, and this one if it is its own
-steps_behind : (port : ℕ) (made : List Step) (step : Step) → steps_of port (made ++ step ∷ []) ≡ steps_of port made + steps_of port (step ∷
+steps_after : (port : ℕ) (made : List Step) (step : Step) → steps_of port (made ++ step ∷ []) ≡ steps_of port made + steps_of port (step ∷
     [])
-steps_behind port [] step = omega arith
-steps_behind port (Client change ∷ made) step = steps_behind port made step
-steps_behind port (Port told ∷ made) step = omega (arith, steps_behind port made step)
-steps_behind port (Flush ∷ made) step = steps_behind port made step
+steps_after port [] step = omega arith
+steps_after port (Client change ∷ made) step = steps_after port made step
+steps_after port (Port told ∷ made) step = omega (arith, steps_after port made step)
+steps_after port (Flush ∷ made) step = steps_after port made step
 
 beyond_step : (place port links : ℕ) → place < links → nat_le port links ≡ false → steps_of (place + 1) (Port port ∷ []) ≡ 0
 beyond_step place port links within beyond = grind (arith, nat_tests, within, beyond)
@@ -57,7 +57,7 @@ module _ {L : Type 0} (number : L → ℕ) (steps : L → LinkCall → LinkAnswe
       → HaveRuns made links ports events → HaveRuns (made ++ step ∷ []) links last (events ++ more)
   others_step made step links ports last events more same none still is =
       recounted number steps first start (counted made) (counted (made ++ step ∷ [])) links last (events ++ more)
-      (λ place within. omega (arith, steps_behind (place + 1) made step, still place within))
+      (λ place within. omega (arith, steps_after (place + 1) made step, still place within))
       (ports_stay number steps first start (counted made) links ports last events more same none is)
 
   module _ {D : Type 0} (disk : D → Disk) (made : List Step) (t : ℕ) (links : List L) (old new : CoreOnDiskView D)
@@ -84,7 +84,7 @@ module _ {L : Type 0} (number : L → ℕ) (steps : L → LinkCall → LinkAnswe
     port_runs true port eq is =
         recounted number steps first start (stepped port (counted made)) (counted (made ++ Port port ∷ [])) links last
         (events ++ stamped t told)
-        (λ place within. omega (arith, steps_behind (place + 1) made (Port port)))
+        (λ place within. omega (arith, steps_after (place + 1) made (Port port)))
         (there_runs number steps first start (counted made) t port links old.core new.core ports last is.link is.linked events told core are
         is.link_is is.links (makes_of port old new ports last told is))
     port_runs false port eq is =

@@ -28,7 +28,7 @@ use Rattle.iol_run.proofs.OwnTurns.{some_count, rests_own, takes_own, written_ow
 use Rattle.iol_run.proofs.OwnTurns.{first_less}
 use Rattle.iol_run.proofs.Served.{IsServed, Served}
 use Rattle.iol_run.proofs.Serving.{knows}
-use Rattle.iol_run.proofs.TurnsLeft.{HasBatch, HasLayout, IsNewest, own_turns, turns_behind, turns_left, fewer_behind}
+use Rattle.iol_run.proofs.TurnsLeft.{HasBatch, HasLayout, IsNewest, own_turns, turns_after, turns_left, fewer_after}
 use Rattle.iol_run.proofs.TurnsLeft.{given_turns, flies_within}
 use Rattle.iol_run.specs.CoreOnDisk.{CoreOnDiskView, IsInFlight, HasFlight, IsAtRest}
 use Rattle.iol_run.specs.Flushed.{batch_turns}
@@ -42,8 +42,8 @@ less_own : (own_old own_new old new : ℕ) → own_new + 1 ≤ own_old → new �
 less_own own_old own_new old new fewer same = omega (arith, fewer, same)
 
 -- fewer turns are left if a batch is taken from the waiting commands
-less_behind : (own old new : ℕ) → own + 1 + new ≤ old → own + new ≤ 0 + old - 1
-less_behind own old new fewer = omega (arith, fewer)
+less_after : (own old new : ℕ) → own + 1 + new ≤ old → own + new ≤ 0 + old - 1
+less_after own old new fewer = omega (arith, fewer)
 
 -- if no batch may be taken, none is in flight and the disk has not failed, nothing waits
 pub nothing_waits : (waits flies : ℕ) (failed : Bool) → (not (nat_eq waits 0) && nat_eq flies 0 && not failed) ≡ false → flies ≡ 0
@@ -93,7 +93,7 @@ module _ {D : Type 0} (layout : Layout) where
       → Acknowledges old new told → IsAtRest old.flusher.stage → IsNewest old.flusher.stage (Some committed) → IsFewer old new
   acknowledged_fewer old new committed told there is at newest =
       less_own (own_turns (length old.core.queue) old.flusher.stage old.committed)
-      (own_turns (length new.core.queue) new.flusher.stage new.committed) (turns_behind layout old.core) (turns_behind layout new.core)
+      (own_turns (length new.core.queue) new.flusher.stage new.committed) (turns_after layout old.core) (turns_after layout new.core)
       (omega (arith, before, after)) (ap (λ (n : ℕ). batch_turns layout * n) behind)
     where
       before : own_turns (length old.core.queue) old.flusher.stage old.committed ≡ 1
@@ -145,11 +145,11 @@ module _ {D : Type 0} (layout : Layout) where
       → (writes_no_more old.core.stopped ≡ true → ⊥)
       → IsFewer old new
   takes_fewer old new told Made none needs is was waits sound =
-      subst (λ (n : ℕ). left_of new ≤ n + turns_behind layout old.core - 1) (sym before)
-      (less_behind own_new (turns_behind layout old.core) (turns_behind layout new.core)
-      (subst (λ (n : ℕ). own_new + 1 + turns_behind layout new.core ≤ n)
+      subst (λ (n : ℕ). left_of new ≤ n + turns_after layout old.core - 1) (sym before)
+      (less_after own_new (turns_after layout old.core) (turns_after layout new.core)
+      (subst (λ (n : ℕ). own_new + 1 + turns_after layout new.core ≤ n)
       (ap (λ (n : ℕ). batch_turns layout * n) waiting)
-      (fewer_behind (batch_turns layout) (length new.core.queue) new.core.flight (own_new + 1)
+      (fewer_after (batch_turns layout) (length new.core.queue) new.core.flight (own_new + 1)
       own (flies_within new.core commands flight).1)))
     where
       own_new : ℕ
@@ -256,7 +256,7 @@ module _ {D : Type 0} (layout : Layout) where
         → IsLess (length old.core.queue) old.flusher.stage new.flusher.stage → IsFewer old new
     less_left old new none after same (inl less) =
         less_own (own_turns (length old.core.queue) old.flusher.stage old.committed)
-        (own_turns (length new.core.queue) new.flusher.stage new.committed) (turns_behind layout old.core) (turns_behind layout new.core)
+        (own_turns (length new.core.queue) new.flusher.stage new.committed) (turns_after layout old.core) (turns_after layout new.core)
         (omega (
           arith,
           less,
@@ -264,7 +264,7 @@ module _ {D : Type 0} (layout : Layout) where
           ap (own_turns (length new.core.queue) new.flusher.stage) after,
           ap (λ (c : CoreView). own_turns (length c.queue) new.flusher.stage None) same,
         ))
-        (ap (turns_behind layout) same)
+        (ap (turns_after layout) same)
     less_left old new none after same (inr rests) = omega (arith, own, behind)
       where
         own : own_turns (length new.core.queue) new.flusher.stage new.committed ≡ 0
@@ -275,7 +275,7 @@ module _ {D : Type 0} (layout : Layout) where
         empty : length new.core.queue - new.core.flight ≡ 0
         empty = omega (arith, ap (λ (c : CoreView). length c.queue) same, rests.0)
 
-        behind : turns_behind layout new.core ≡ 0
+        behind : turns_after layout new.core ≡ 0
         behind = ap (λ (n : ℕ). batch_turns layout * n) empty ∙ mul-zero (batch_turns layout)
 
     called_fewer : (old new : CoreOnDiskView D) (told : List Event) → old.committed ≡ None → new.committed ≡ None
@@ -303,14 +303,14 @@ module _ {D : Type 0} (layout : Layout) where
     publishes_fewer : (old new : CoreOnDiskView D) (told : List Event) → old.committed ≡ None → Publishes old new told → IsFewer old new
     publishes_fewer old new told none is =
         less_own (own_turns (length old.core.queue) old.flusher.stage old.committed)
-        (own_turns (length new.core.queue) new.flusher.stage new.committed) (turns_behind layout old.core) (turns_behind layout new.core)
+        (own_turns (length new.core.queue) new.flusher.stage new.committed) (turns_after layout old.core) (turns_after layout new.core)
         (omega (
           arith,
           ap (own_turns (length old.core.queue) old.flusher.stage) none,
           ap (own_turns (length new.core.queue) new.flusher.stage) is.3,
           publishing (length old.core.queue) old.flusher.stage old.flusher.published new.flusher is.0 is.1,
         ))
-        (ap (turns_behind layout) is.2)
+        (ap (turns_after layout) is.2)
 
     pub stopped : (core : CoreView) (stage : FlushStage D) (there : Bool) → need_met (need_of stage) there ≡ need.Stopped
         → HasFlight core stage → writes_no_more core.stopped ≡ true

@@ -62,11 +62,11 @@ own_turns waits (Publishing journal written) None = 2
 own_turns waits (Failed disk fault) None = 0
 
 -- the turns of the commands after the batch in flight, each in a batch of its own
-abbrev pub turns_behind : Layout → CoreView → ℕ
-turns_behind layout core = batch_turns layout * (length core.queue - core.flight)
+abbrev pub turns_after : Layout → CoreView → ℕ
+turns_after layout core = batch_turns layout * (length core.queue - core.flight)
 
 abbrev pub turns_left : {D : Type 0} → Layout → CoreView → FlushStage D → Option CommittedView → ℕ
-turns_left layout core stage committed = own_turns (length core.queue) stage committed + turns_behind layout core
+turns_left layout core stage committed = own_turns (length core.queue) stage committed + turns_after layout core
 
 -- ---- sums of turns, as numbers: the turns of a batch are not unfolded in them
 or_more : (turns all more : ℕ) → turns ≤ all → turns ≤ all + more
@@ -122,8 +122,8 @@ few_within : (turns most n : ℕ) → 1 ≤ n → turns ≤ 2 → turns ≤ (24 
 few_within turns most n some le = omega (arith, le, within_each most n some)
 
 -- the turns of a batch, and of the commands after it, are at most those of all waiting commands
-pub fewer_behind : (each waits flies own : ℕ) → own ≤ each * flies → flies ≤ waits → own + each * (waits - flies) ≤ each * waits
-fewer_behind each waits flies own most within =
+pub fewer_after : (each waits flies own : ℕ) → own ≤ each * flies → flies ≤ waits → own + each * (waits - flies) ≤ each * waits
+fewer_after each waits flies own most within =
     subst (λ (n : ℕ). own + each * (waits - flies) ≤ n) (sym parted) (add_within own (each * flies) (each * (waits - flies)) most)
   where
     parted : each * waits ≡ each * flies + each * (waits - flies)
@@ -145,26 +145,26 @@ flies_within core commands is =
     (omega (arith, is.flight, is.some), omega (arith, is.flight, ap length is.queue, length-append commands is.behind))
 
 module _ (layout : Layout) where
-  behind_within : (core : CoreView) → turns_behind layout core ≤ batch_turns layout * length core.queue
-  behind_within core = mul-le-mul_left (batch_turns layout) (less (length core.queue) core.flight)
+  after_within : (core : CoreView) → turns_after layout core ≤ batch_turns layout * length core.queue
+  after_within core = mul-le-mul_left (batch_turns layout) (less (length core.queue) core.flight)
     where
       less : (n m : ℕ) → n - m ≤ n
       less n m = omega arith
 
   -- the turns that are left are at most those of each waiting command in a batch of its own, and those of a checkpoint
   abbrev pub IsWithin : CoreView → ℕ → Type 0
-  IsWithin core own = own + turns_behind layout core ≤ batch_turns layout * length core.queue + (most_checkpoint_calls layout + 1)
+  IsWithin core own = own + turns_after layout core ≤ batch_turns layout * length core.queue + (most_checkpoint_calls layout + 1)
 
   opening_with : (core : CoreView) (own : ℕ) → own ≤ most_checkpoint_calls layout + 1 → IsWithin core own
   opening_with core own few =
-      both_within own (most_checkpoint_calls layout + 1) (turns_behind layout core) (batch_turns layout * length core.queue) few
-      (behind_within core)
+      both_within own (most_checkpoint_calls layout + 1) (turns_after layout core) (batch_turns layout * length core.queue) few
+      (after_within core)
 
   one_with : (core : CoreView) (commands : List CommandValue) (own : ℕ) → IsInFlight core commands
       → own ≤ batch_turns layout * length commands → IsWithin core own
   one_with core commands own is most =
-      or_more (own + turns_behind layout core) (batch_turns layout * length core.queue) (most_checkpoint_calls layout + 1)
-      (fewer_behind (batch_turns layout) (length core.queue) core.flight own
+      or_more (own + turns_after layout core) (batch_turns layout * length core.queue) (most_checkpoint_calls layout + 1)
+      (fewer_after (batch_turns layout) (length core.queue) core.flight own
       (subst (λ (n : ℕ). own ≤ batch_turns layout * n) (sym is.flight) most) (flies_within core commands is).1)
 
 module _ {D : Type 0} (layout : Layout) where

@@ -67,7 +67,7 @@ pub fn serve<
     let Ok(front) = Front::new(alloc, journal.number(), &state) else {
         return Err(Fault::Memory);
     };
-    serve_behind::<D, L, Brand, I, W, R>(
+    serve_with_front::<D, L, Brand, I, W, R>(
         rt,
         alloc,
         front,
@@ -80,7 +80,7 @@ pub fn serve<
 }
 
 // Serves a master under the name of a front that starts with its journal.
-fn serve_behind<
+fn serve_with_front<
     D: SectorDisk + Drop + Send + 'static,
     L: DeviceLink + Drop + Send + 'static,
     F: Name + 'static,

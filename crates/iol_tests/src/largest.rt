@@ -64,7 +64,7 @@ const MISFITS: [(u64, usize, Option<u8>); 4] = [
 ];
 
 #[test]
-fn a_batch_that_does_not_follow_behind_another_is_a_misfit(rt: HostRuntime) {
+fn a_batch_that_does_not_follow_after_another_is_a_misfit(rt: HostRuntime) {
     for (first, clears, last) in MISFITS {
         let batch = batch(&rt, rt.alloc(), first, clears, last);
         let cause = refusal(&rt, store_of(&rt, rt.alloc(), 1), batch);

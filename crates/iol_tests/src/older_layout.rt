@@ -104,7 +104,7 @@ fn found_label<R: Abort>(
 }
 
 #[test]
-fn behind_its_renewal_its_port_is_given_a_label(rt: HostRuntime) {
+fn after_its_renewal_its_port_is_given_a_label(rt: HostRuntime) {
     let port = PortId::new(1).expect(&rt, "a port");
     let label = Label::new(b"Pump 3").expect(&rt, "a label");
     let config = PortConfig { label, ..config() };

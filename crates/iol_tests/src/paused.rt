@@ -98,7 +98,7 @@ fn with_batch<R: Abort>(
 
 // Returns the disk after `calls` disk calls, if a checkpoint of two commands is paused after `before` of its own for a third
 // command.
-fn disk_behind<R: Abort>(rt: &R, alloc: Global, before: usize, calls: usize) -> MemoryDisk {
+fn disk_left<R: Abort>(rt: &R, alloc: Global, before: usize, calls: usize) -> MemoryDisk {
     let begun = checkpoint(rt, store_of(rt, alloc, 2));
     if calls <= before {
         return stepped(rt, begun, calls).disk();
@@ -129,7 +129,7 @@ fn expected(before: usize, calls: usize, pick: Pick) -> u64 {
 }
 
 // Returns the number of commands that are found once five more were written, with a checkpoint among them.
-fn found_behind_five<R: Abort>(rt: &R, alloc: Global, disk: MemoryDisk) -> Option<(u64, u64)> {
+fn found_after_five<R: Abort>(rt: &R, alloc: Global, disk: MemoryDisk) -> Option<(u64, u64)> {
     let (mut journal, _) = opened(rt, alloc, disk);
     for _ in 0..5 {
         journal = match write(alloc, journal, configure(rt, 1)) {
@@ -143,7 +143,7 @@ fn found_behind_five<R: Abort>(rt: &R, alloc: Global, disk: MemoryDisk) -> Optio
 // Asserts that a stop after `calls` disk calls leaves what is expected.
 fn assert_left<R: Abort>(rt: &R, alloc: Global, before: usize, calls: usize, pick: Pick) {
     let number = expected(before, calls, pick);
-    let left = disk_behind(rt, alloc, before, calls).stop(pick);
+    let left = disk_left(rt, alloc, before, calls).stop(pick);
     assert!(rt;
         found(alloc, left) == Some((number, number)),
         "{before} {calls}"
@@ -162,13 +162,13 @@ fn a_stop_beside_a_paused_checkpoint_leaves_what_its_batch_says(rt: HostRuntime)
 }
 
 #[test]
-fn behind_a_stop_beside_a_paused_checkpoint_another_one_is_made(rt: HostRuntime) {
+fn after_a_stop_beside_a_paused_checkpoint_another_one_is_made(rt: HostRuntime) {
     for before in 0..LAST_PAUSE + 1 {
         for calls in 0..CHECKPOINT_CALLS + 2 * BATCH_CALLS + 1 {
             for pick in [Pick::Old, Pick::New] {
                 let number = expected(before, calls, pick).saturating_add(5);
-                let left = disk_behind(&rt, rt.alloc(), before, calls).stop(pick);
-                let all = found_behind_five(&rt, rt.alloc(), left);
+                let left = disk_left(&rt, rt.alloc(), before, calls).stop(pick);
+                let all = found_after_five(&rt, rt.alloc(), left);
                 assert!(rt; all == Some((number, number)), "{before} {calls}");
             }
         }
@@ -194,7 +194,7 @@ fn two_batches_are_carried_in_their_order(rt: HostRuntime) {
         for second in first..LAST_PAUSE + BATCH_CALLS + 1 {
             let left = disk_with_two(&rt, rt.alloc(), first, second).stop(Pick::Old);
             assert!(rt;
-                found_behind_five(&rt, rt.alloc(), left) == Some((9, 9)),
+                found_after_five(&rt, rt.alloc(), left) == Some((9, 9)),
                 "{first} {second}"
             );
         }

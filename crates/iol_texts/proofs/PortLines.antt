@@ -33,17 +33,17 @@ abbrev text_of : ℕ → Option Port → List ℕ
 text_of number port = option_map_or (port_text number) port []
 
 -- the lines of the ports before a place, and those of the port at it
-ports_behind : (first place : ℕ) (ports : List Port)
+later_ports : (first place : ℕ) (ports : List Port)
     → port_lines first (take place ports) ++ text_of (first + place) (slice_get ports place) ≡ port_lines first (take (suc place) ports)
-ports_behind first zero [] = refl
-ports_behind first (suc place) [] = refl
-ports_behind first zero (port ∷ ports) =
+later_ports first zero [] = refl
+later_ports first (suc place) [] = refl
+later_ports first zero (port ∷ ports) =
     let same : first + 0 ≡ first = omega arith in ap (λ (n : ℕ). port_text n port) same ∙ sym (append-nil (port_text first port))
-ports_behind first (suc place) (port ∷ ports) =
+later_ports first (suc place) (port ∷ ports) =
     let same : first + suc place ≡ first + 1 + place = omega arith in
     append_assoc (port_text first port) (port_lines (first + 1) (take place ports)) (text_of (first + suc place) (slice_get ports place))
     ∙ ap (λ (n : ℕ). port_text first port ++ (port_lines (first + 1) (take place ports) ++ text_of n (slice_get ports place))) same
-    ∙ ap (λ (text : List ℕ). port_text first port ++ text) (ports_behind (first + 1) place ports)
+    ∙ ap (λ (text : List ℕ). port_text first port ++ text) (later_ports (first + 1) place ports)
 
 -- the lines of the ports of a state before a number, and those of the port with this number
 pub ports_next : (number : ℕ) (state : State) → 1 ≤ number
@@ -57,4 +57,4 @@ ports_next (suc place) state some =
     ap (λ (found : Bool). port_lines 1 (take (suc place - 1) state)
     ++ text_of (suc place) (if found then slice_get state (suc place - 1) else None)) there
     ∙ ap (λ (i : ℕ). port_lines 1 (take i state) ++ text_of (suc place) (slice_get state i)) before
-    ∙ ap (λ (n : ℕ). port_lines 1 (take place state) ++ text_of n (slice_get state place)) here ∙ ports_behind 1 place state
+    ∙ ap (λ (n : ℕ). port_lines 1 (take place state) ++ text_of n (slice_get state place)) here ∙ later_ports 1 place state

@@ -150,10 +150,10 @@ no_keys [] next other said some = absurd (omega (arith, some))
 no_keys (key ∷ keys) next other said some = let none : [] ≡ key ∷ keys = ap keys_in said in cc
 
 -- no key is read from a reserved Index on
-none_behind : (zero : Bool) (said : Result Listing ListFault) (keys : List Key) (next : Next)
+none_after : (zero : Bool) (said : Result Listing ListFault) (keys : List Key) (next : Next)
     → at_first_places (cond zero (Ok ([], next_is.End)) (cond true (Err ReservedKey) said)) ≡ Ok (keys, next) → 0 < length keys → ⊥
-none_behind true said keys next read some = no_keys keys next _ read some
-none_behind false said keys next read some = cc
+none_after true said keys next read some = no_keys keys next _ read some
+none_after false said keys next read some = cc
 
 -- two octets are not a key
 two_octets_none : (zero reserved : Bool) (index : ℕ) (keys : List Key) (next : Next)
@@ -167,7 +167,7 @@ two_octets_none false false index keys next read some = no_keys keys next _ read
 free_first : (zero reserved : Bool) (said : Result Listing ListFault) (keys : List Key) (next : Next)
     → at_first_places (cond zero (Ok ([], next_is.End)) (cond reserved (Err ReservedKey) said)) ≡ Ok (keys, next) → 0 < length keys
     → not reserved ≡ true
-free_first zero true said keys next read some = absurd (none_behind zero said keys next read some)
+free_first zero true said keys next read some = absurd (none_after zero said keys next read some)
 free_first zero false said keys next read some = refl
 
 -- octets from which a key is read begin with one

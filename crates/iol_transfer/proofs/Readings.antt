@@ -24,16 +24,16 @@ behind kept (Ok said) = Ok (kept ++ without kept said.0, said.1)
 behind kept (Err fault) = Err fault
 
 -- the result of reading octets after kept keys
-abbrev pub read_behind : List Key → List ℕ → Result Listing ListFault
-read_behind kept octets = behind kept (reading_of octets)
+abbrev pub read_after : List Key → List ℕ → Result Listing ListFault
+read_after kept octets = behind kept (reading_of octets)
 
 pub without-none : (keys : List Key) → without [] keys ≡ keys
 without-none [] = refl
 without-none (key ∷ keys) = ap (λ (rest : List Key). key ∷ rest) (without-none keys)
 
 -- at the beginning no key is kept
-pub read_behind-none : (octets : List ℕ) → reading_of octets ≡ read_behind [] octets
-read_behind-none octets = by (reading_of octets)
+pub read_after-none : (octets : List ℕ) → reading_of octets ≡ read_after [] octets
+read_after-none octets = by (reading_of octets)
   where
     by : (read : Result Listing ListFault) → read ≡ behind [] read
     by (Ok said) = ap (λ (keys : List Key). let r : Result Listing ListFault = Ok (keys, said.1) in r) (sym (without-none said.0))
@@ -91,12 +91,12 @@ abbrev pub key_in : List ℕ → Key
 key_in octets = key_of (get_or octets 0 0) (get_or octets 1 0) (get_or octets 2 0)
 
 -- after an entry whose key is not reserved, reading continues with this key kept
-pub read_behind-entry : (kept : List Key) (octets : List ℕ) → 3 ≤ length octets → is_reserved (key_in octets) ≡ false
-    → read_behind kept octets ≡ read_behind (kept_with kept (key_in octets)) (drop 3 octets)
-read_behind-entry kept [] whole free = absurd (omega (arith, whole))
-read_behind-entry kept (high ∷ []) whole free = absurd (omega (arith, whole))
-read_behind-entry kept (high ∷ low ∷ []) whole free = absurd (omega (arith, whole))
-read_behind-entry kept (high ∷ low ∷ subindex ∷ more) whole free =
+pub read_after-entry : (kept : List Key) (octets : List ℕ) → 3 ≤ length octets → is_reserved (key_in octets) ≡ false
+    → read_after kept octets ≡ read_after (kept_with kept (key_in octets)) (drop 3 octets)
+read_after-entry kept [] whole free = absurd (omega (arith, whole))
+read_after-entry kept (high ∷ []) whole free = absurd (omega (arith, whole))
+read_after-entry kept (high ∷ low ∷ []) whole free = absurd (omega (arith, whole))
+read_after-entry kept (high ∷ low ∷ subindex ∷ more) whole free =
     ap (λ (said : Result Listing ListFault). behind kept (at_first_places said))
     (at_index-free (index_of high low) (listed_before key (listing_of more)) free)
     ∙ by (listing_of more)

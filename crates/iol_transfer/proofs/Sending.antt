@@ -15,21 +15,21 @@ use Rattle.iol_transfer.specs.declared.repeats.TheConstants.{MOST_REQUESTS}
 use Rattle.iol_transfer.specs.declared.download.DownloadStep.{DownloadStep}
 use Rattle.iol_transfer.specs.declared.download.DownloadStep.TheVariants as step_is
 use Rattle.iol_transfer.specs.Exchanges.{Exchange, done, busy_times, Follows}
-use Rattle.iol_transfer.specs.Download.{Sends, Opening, Parameter, Closing, Sender, sent_by, behind_of, sends_after, writing, writes_of}
+use Rattle.iol_transfer.specs.Download.{Sends, Opening, Parameter, Closing, Sender, sent_by, later_writes, sends_after, writing, writes_of}
 use Rattle.iol_transfer.specs.Download.{order_of, entry_written, answered_to, IsDownload, IsDownloadCause, IsDownloading, IsDownloadStep}
 use Rattle.iol_transfer.specs.Download.{IfGoesOn, IfDone}
 use Rattle.iol_transfer.proofs.Order.{follows-more}
 
 behind-after : (set : SetValue) (sends : Sends) → sends ≢ Closing
-    → behind_of set sends ≡ sent_by (sends_after set sends) ∷ behind_of set (sends_after set sends)
+    → later_writes set sends ≡ sent_by (sends_after set sends) ∷ later_writes set (sends_after set sends)
 behind-after set Opening goes = by set.entries
   where
-    by : (entries : List Entry) → writes_of entries ≡ sent_by (writing entries) ∷ behind_of set (writing entries)
+    by : (entries : List Entry) → writes_of entries ≡ sent_by (writing entries) ∷ later_writes set (writing entries)
     by [] = refl
     by (entry ∷ entries) = refl
 behind-after set (Parameter entry behind) goes = by behind
   where
-    by : (entries : List Entry) → writes_of entries ≡ sent_by (writing entries) ∷ behind_of set (writing entries)
+    by : (entries : List Entry) → writes_of entries ≡ sent_by (writing entries) ∷ later_writes set (writing entries)
     by [] = refl
     by (entry ∷ entries) = refl
 behind-after set Closing goes = absurd (goes refl)
@@ -66,11 +66,11 @@ fed-on old new answer step_is.More is = λ set conversation since. by is set con
         let request = sent_by old.sends in
         let exchange : Exchange = done request in
         let order : order_of set
-        ≡ (since.sent ++ request ∷ []) ++ sent_by (sends_after old.set old.sends) ∷ behind_of set (sends_after old.set old.sends) =
+        ≡ (since.sent ++ request ∷ []) ++ sent_by (sends_after old.set old.sends) ∷ later_writes set (sends_after old.set old.sends) =
         since.order
-        ∙ ap (λ s. since.sent ++ request ∷ behind_of s old.sends) (sym since.set_is)
+        ∙ ap (λ s. since.sent ++ request ∷ later_writes s old.sends) (sym since.set_is)
         ∙ ap (λ b. since.sent ++ request ∷ b) (behind-after old.set old.sends written.1)
-        ∙ ap (λ s. since.sent ++ request ∷ sent_by (sends_after old.set old.sends) ∷ behind_of s
+        ∙ ap (λ s. since.sent ++ request ∷ sent_by (sends_after old.set old.sends) ∷ later_writes s
         (sends_after old.set old.sends)) since.set_is
         ∙ sym (append_assoc since.sent (request ∷ []) _) in
         let same : since.before ++ busy_times old.busy request ++ exchange ∷ []
@@ -107,7 +107,7 @@ whole-is : (set : SetValue) (conversation : List Exchange) (old : Sender) → Is
 whole-is set conversation old since last =
     let request = sent_by old.sends in
     let exchange : Exchange = done request in
-    let none : behind_of set old.sends ≡ [] = ap (behind_of set) last in
+    let none : later_writes set old.sends ≡ [] = ap (later_writes set) last in
     let order : order_of set ≡ since.sent ++ request ∷ [] = since.order ∙ ap (λ b. since.sent ++ request ∷ b) none in
     let same : since.before ++ busy_times old.busy request ++ exchange ∷ []
     ≡ conversation ++ exchange ∷ [] = ap (λ c. c ++ exchange ∷ []) (sym since.is) in
@@ -174,7 +174,7 @@ last-of (suc times) zero request answer left rest is follows = absurd (empty tim
 last-of (suc times) (suc busy) request answer left rest is follows =
     last-of times busy request answer left rest (same-head _ _ _ _ is).1 follows
 
-none-behind : (set : SetValue) (sends : Sends) → behind_of set sends ≡ [] → sends ≡ Closing
+none-behind : (set : SetValue) (sends : Sends) → later_writes set sends ≡ [] → sends ≡ Closing
 none-behind set Opening is = absurd (some set.entries is)
   where
     some : (entries : List Entry) → writes_of entries ≡ [] → ⊥
@@ -194,13 +194,13 @@ last-answer set conversation old answer since all =
     let request = sent_by old.sends in
     let exchange = answered_to old answer in
     let whole : Follows (since.before ++ (busy_times old.busy request ++ exchange ∷ []))
-    (map done (since.sent ++ request ∷ behind_of set old.sends)) =
-    subst (λ c. Follows c (map done (since.sent ++ request ∷ behind_of set old.sends)))
+    (map done (since.sent ++ request ∷ later_writes set old.sends)) =
+    subst (λ c. Follows c (map done (since.sent ++ request ∷ later_writes set old.sends)))
     (ap (λ c. c ++ exchange ∷ []) since.is ∙ append_assoc since.before (busy_times old.busy request) (exchange ∷ []))
     (subst (λ o. Follows (conversation ++ exchange ∷ []) (map done o)) since.order all) in
-    let left = follows-rest since.sent (request ∷ behind_of set old.sends) since.before
+    let left = follows-rest since.sent (request ∷ later_writes set old.sends) since.before
     (busy_times old.busy request ++ exchange ∷ []) since.follows whole in
-    let last = last-of left.0 old.busy request answer (behind_of set old.sends) left.1 left.3 left.4 in
+    let last = last-of left.0 old.busy request answer (later_writes set old.sends) left.1 left.3 left.4 in
     (last.0, none-behind set old.sends last.1)
 
 pub fed-last : (old new : Sender) (answer : Answer) (result : DownloadStep) → IsDownloadStep old answer result new

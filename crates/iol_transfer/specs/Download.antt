@@ -102,10 +102,10 @@ sent_by (Parameter entry rest) = entry_written entry
 sent_by Closing = commanded DownloadEnd
 
 -- the requests that follow the next one (own)
-abbrev pub behind_of : SetValue → Sends → List Request
-behind_of set Opening = writes_of set.entries
-behind_of set (Parameter entry rest) = writes_of rest
-behind_of set Closing = []
+abbrev pub later_writes : SetValue → Sends → List Request
+later_writes set Opening = writes_of set.entries
+later_writes set (Parameter entry rest) = writes_of rest
+later_writes set Closing = []
 
 -- what a download sends next after an answer (+) (own)
 abbrev pub sends_after : SetValue → Sends → Sends
@@ -122,7 +122,7 @@ pub record IsDownloading (set : SetValue) (conversation : List Exchange) (sender
   pub set_is : sender.set ≡ set
   pub sent : List Request
   pub before : List Exchange
-  pub order : order_of set ≡ sent ++ sent_by sender.sends ∷ behind_of set sender.sends
+  pub order : order_of set ≡ sent ++ sent_by sender.sends ∷ later_writes set sender.sends
   pub is : conversation ≡ before ++ busy_times sender.busy (sent_by sender.sends)
   pub few : sender.busy < MOST_REQUESTS
   pub follows : Follows before (map done sent)

@@ -6,7 +6,7 @@ use Rattle.std.specs.Map.{lookup}
 use Rattle.std.specs.List.{AllByRecursion}
 use Rattle.std.proofs.lemmas.List.{map_push}
 use Rattle.iol_types.specs.DataSet.{Entry, octets_of}
-use Rattle.iol_types.specs.Parts.{PartsValue, IsWithin, octets_at, entry_octets, with_text, grown, data_behind}
+use Rattle.iol_types.specs.Parts.{PartsValue, IsWithin, octets_at, entry_octets, with_text, grown, data_after}
 use Rattle.iol_types.specs.EntriesInMemory.{entries_of, AreKept}
 use Rattle.iol_types.specs.declared.key.Key.{Key}
 use Rattle.iol_types.specs.declared.parts.PartPlace.{PartPlace}
@@ -81,13 +81,13 @@ pub record Pushed (parts : PartsValue) (kept : List (Key × PartPlace)) (octets 
 
 pub pushed : (parts : PartsValue) (kept : List (Key × PartPlace)) (count : ℕ) (key : Key) (octets : List ℕ) → AreKept parts kept count
     → Pushed (with_text parts (entry_octets (key, octets)))
-    (kept ++ (key, data_behind parts (length octets)) ∷ [])
+    (kept ++ (key, data_after parts (length octets)) ∷ [])
     (count + (ENTRY_HEAD_OCTETS + length octets))
     (entries_of parts kept ++ (key, octets) ∷ [])
 pushed parts kept count key octets are =
     let text = entry_octets (key, octets) in
     let later = with_text parts text in
-    let place = data_behind parts (length octets) in
+    let place = data_after parts (length octets) in
     let there = data_lies parts key octets in
     let entries = entries_of parts kept in
     let whole : entries_of later (kept ++ (key, place) ∷ []) ≡ entries ++ (key, octets) ∷ [] =

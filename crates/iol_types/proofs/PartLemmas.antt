@@ -10,7 +10,7 @@ use Rattle.std.proofs.lemmas.Grind.{fold-append}
 use Rattle.iol_types.specs.DataSet.{Entry, IsEntry}
 use Rattle.iol_types.specs.Parts.{PartsValue, no_parts, entry_octets, with_text, grown, texts_of, parts_of, text_numbered, IsWithin}
 use Rattle.iol_types.specs.Parts.{octets_at}
-use Rattle.iol_types.specs.Parts.{data_behind}
+use Rattle.iol_types.specs.Parts.{data_after}
 use Rattle.iol_types.specs.declared.key.Key.{Key}
 use Rattle.iol_types.specs.declared.parts.PartPlace.{PartPlace}
 use Rattle.iol_types.specs.declared.parts.TheConstants.{PART_OCTETS}
@@ -104,11 +104,11 @@ ends_with later part from before octets there found counted = record {
 
 -- the place of an entry's octets after its text was appended
 pub data_lies : (parts : PartsValue) (key : Key) (octets : List ℕ)
-    → LiesThere (with_text parts (entry_octets (key, octets))) (data_behind parts (length octets)) octets
+    → LiesThere (with_text parts (entry_octets (key, octets))) (data_after parts (length octets)) octets
 data_lies parts key octets =
     subst (λ (count : ℕ). LiesThere (cond (nat_le (length parts.last + count) PART_OCTETS)
     (record { full = parts.full; last = parts.last ++ text }) (record { full = parts.full ++ parts.last ∷ []; last = text }))
-    (data_behind parts (length octets)) octets) (sym counted)
+    (data_after parts (length octets)) octets) (sym counted)
     (by (nat_le (length parts.last + (ENTRY_HEAD_OCTETS + length octets)) PART_OCTETS))
   where
     text : List ℕ

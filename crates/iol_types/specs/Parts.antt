@@ -55,8 +55,8 @@ abbrev pub octets_at : PartsValue → PartPlace → List ℕ
 octets_at parts place = slice_range (text_numbered parts place.part) place.offset (place.offset + place.octets)
 
 -- the place that the next entry's octets get, after its head (own)
-abbrev pub data_behind : PartsValue → ℕ → PartPlace
-data_behind parts octets =
+abbrev pub data_after : PartsValue → ℕ → PartPlace
+data_after parts octets =
     if nat_le (length parts.last + (ENTRY_HEAD_OCTETS + octets)) PART_OCTETS
     then record { part = length parts.full; offset = length parts.last + ENTRY_HEAD_OCTETS; octets = octets }
     else record { part = length parts.full + 1; offset = ENTRY_HEAD_OCTETS; octets = octets }

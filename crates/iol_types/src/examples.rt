@@ -165,7 +165,7 @@ pub fn new_ports()
     ensures first { port_numbered (example_port ∷ port_of example_config 2 ∷ []) 1 ≡ Some example_port }
     ensures second { port_numbered (example_port ∷ port_of example_config 2 ∷ []) 2 ≡ Some (port_of example_config 2) }
     ensures none_before { port_numbered (example_port ∷ []) 0 ≡ None }
-    ensures none_behind { port_numbered (example_port ∷ []) 2 ≡ None }
+    ensures none_after { port_numbered (example_port ∷ []) 2 ≡ None }
 {}
 
 /// A command for a port that the master does not have is refused; a Clear of an existing port passes, with a set

@@ -38,7 +38,7 @@ impl Model for Parts {
 }
 
 impl Parts {
-    ghost use Rattle.iol_types.specs.Parts.{IsWithin, no_parts, with_text, texts_of, octets_at, data_behind};
+    ghost use Rattle.iol_types.specs.Parts.{IsWithin, no_parts, with_text, texts_of, octets_at, data_after};
 
     // Makes parts with one empty text. It allocates no memory.
     pub(crate) fn new(alloc: Global) -> Parts
@@ -91,7 +91,7 @@ impl Parts {
     ) -> Result<PartPlace, AllocError>
         requires { ENTRY_HEAD_OCTETS + length octets.now ≤ PART_OCTETS }
         ensures pushed { OnOk result (self.new ≡ with_text self.old (head ++ octets.now)) }
-        ensures place { IfOk result (λ place. place ≡ data_behind self.old (length octets.now)) }
+        ensures place { IfOk result (λ place. place ≡ data_after self.old (length octets.now)) }
         ensures kept { OnErr result (self.new ≡ self.old) }
     {
         if self.last.len() + ENTRY_HEAD_OCTETS + octets.len() <= PART_OCTETS {
@@ -109,7 +109,7 @@ impl Parts {
     ) -> Result<PartPlace, AllocError>
         requires { length self.old.last + ENTRY_HEAD_OCTETS + length octets.now ≤ PART_OCTETS }
         ensures pushed { OnOk result (self.new ≡ with_text self.old (head ++ octets.now)) }
-        ensures place { IfOk result (λ place. place ≡ data_behind self.old (length octets.now)) }
+        ensures place { IfOk result (λ place. place ≡ data_after self.old (length octets.now)) }
         ensures kept { OnErr result (self.new ≡ self.old) }
     {
         let place = PartPlace {
@@ -132,7 +132,7 @@ impl Parts {
     ) -> Result<PartPlace, AllocError>
         requires { PART_OCTETS < length self.old.last + ENTRY_HEAD_OCTETS + length octets.now }
         ensures pushed { OnOk result (self.new ≡ with_text self.old (head ++ octets.now)) }
-        ensures place { IfOk result (λ place. place ≡ data_behind self.old (length octets.now)) }
+        ensures place { IfOk result (λ place. place ≡ data_after self.old (length octets.now)) }
         ensures kept { OnErr result (self.new ≡ self.old) }
     {
         let mut next = Vec::with_capacity(*self.full.allocator(), PART_OCTETS)?;

@@ -10,7 +10,7 @@ use Rattle.iol_journal.specs.Runs.{with_batch_begun, with_batch_written}
 use Rattle.iol_journal.specs.Running.{IsRunWriting}
 use Rattle.iol_example.specs.Store.{left_disk, freeing_calls, with_slot, IsRefusal, MakesCalls, RestsAt}
 use Rattle.iol_example.proofs.CallLaws.{ended_early, then_makes}
-use Rattle.iol_example.proofs.StoreLaws.{rests_at, or_after, batch_behind, faulted_run, none_refused, refused_as_it_was}
+use Rattle.iol_example.proofs.StoreLaws.{rests_at, or_after, batch_after, faulted_run, none_refused, refused_as_it_was}
 use Rattle.iol_example.proofs.StoreLaws.{run_of_queued, written_is, written_rests}
 use Rattle.iol_example.proofs.store.write.Goals as goal
 
@@ -69,7 +69,7 @@ pub returns-in-Ok-begin-clause-any_moment : goal.returns-in-Ok-begin-clause-any_
 returns-in-Ok-begin-clause-any_moment g c = λ rests.
     let freed = c.in_ok-journal.ensures in
     let begun = c.in-Ok-begin.ensures in
-    batch_behind _ _ _ _ _ _ _ _ _ _
+    batch_after _ _ _ _ _ _ _ _ _ _
     (ap (λ (w : WritingView g.row.D.Denot). g.D.SectorDisk.disk w.disk) begun.begun)
     (ap (λ (w : WritingView g.row.D.Denot). w.standing.number) begun.begun ∙ freed.same.0)
     (ap (λ (w : WritingView g.row.D.Denot). w.standing.state) begun.begun ∙ freed.same.1)

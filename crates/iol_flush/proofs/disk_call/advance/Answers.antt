@@ -3,7 +3,7 @@ use Rattle.iol_journal.specs.Layout.{renewed}
 use Rattle.iol_journal.specs.Meaning.{Standing}
 use Rattle.iol_flush.specs.Stages.{most_checkpoint_calls}
 use Rattle.iol_flush.proofs.Turns.{one_less}
-use Rattle.iol_flush.proofs.Keeping.{then_keeps, comes_to_rest, not_gone_on, rests_behind}
+use Rattle.iol_flush.proofs.Keeping.{then_keeps, comes_to_rest, not_gone_on, rests_after}
 use Rattle.iol_flush.proofs.Steps.{set_aside_step, ended_step}
 use Rattle.iol_flush.proofs.disk_call.advance.Goals as goal
 
@@ -39,7 +39,7 @@ returns-in-Done-clause-run g c =
 
 pub returns-in-Done-clause-sound : goal.returns-in-Done-clause-sound
 returns-in-Done-clause-sound g c = λ sound.
-    rests_behind g.D.SectorDisk.disk c.in-Done.journal (c.in-Done.ensures.durable sound).0 c.in-Done.ensures.done.none
+    rests_after g.D.SectorDisk.disk c.in-Done.journal (c.in-Done.ensures.durable sound).0 c.in-Done.ensures.done.none
 
 pub returns-in-Failed-clause-run : goal.returns-in-Failed-clause-run
 returns-in-Failed-clause-run g c =

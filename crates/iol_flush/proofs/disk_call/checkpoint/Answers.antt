@@ -1,4 +1,4 @@
-use Rattle.iol_flush.proofs.Keeping.{still_checkpointed, is_checkpointed, not_checkpointed, rests_behind}
+use Rattle.iol_flush.proofs.Keeping.{still_checkpointed, is_checkpointed, not_checkpointed, rests_after}
 use Rattle.iol_flush.proofs.disk_call.checkpoint.Goals as goal
 
 pub returns-in-More-clause-run : goal.returns-in-More-clause-run
@@ -15,4 +15,4 @@ returns-in-Failed-clause-run g c =
 
 pub returns-in-Done-clause-sound : goal.returns-in-Done-clause-sound
 returns-in-Done-clause-sound g c = λ sound.
-    rests_behind g.D.SectorDisk.disk c.in-Done.journal (c.in-Done.ensures.durable sound).0 c.in-Done.ensures.done.none
+    rests_after g.D.SectorDisk.disk c.in-Done.journal (c.in-Done.ensures.durable sound).0 c.in-Done.ensures.done.none

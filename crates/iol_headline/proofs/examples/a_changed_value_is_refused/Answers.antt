@@ -8,7 +8,7 @@ use Rattle.iol_core.specs.Statuses.{Uploading}
 use Rattle.iol_headline.proofs.ExampleTalks.{octets_in, uploading, start, size, index_list, first_value, second_value, checksum}
 use Rattle.iol_headline.proofs.ExampleTalks.{upload_talk}
 use Rattle.iol_headline.proofs.OnePlace.{Each, TellsStatus, one_place, none_marked, talk_no_status, one_talk, settled_each, each_front}
-use Rattle.iol_headline.proofs.OnePlace.{each_behind}
+use Rattle.iol_headline.proofs.OnePlace.{each_after}
 use Rattle.iol_headline.proofs.examples.a_changed_value_is_refused.Goals as goal
 use Rattle.iol_headline.specs.Conversations.{Converses}
 use Rattle.iol_headline.specs.Examples.{example_set, flagged, uploaded, upload}
@@ -42,7 +42,7 @@ all_other = (
 
 refused : (connection : ℕ) → IsUploadedWhole 1 connection (example_set 0x7E) (stamped 7 uploaded) → ⊥
 refused connection is =
-    (each_behind IsOther (opening is.finished.upload.size is.finished.upload.lists) (first_value ∷ wrong ∷ [])
+    (each_after IsOther (opening is.finished.upload.size is.finished.upload.lists) (first_value ∷ wrong ∷ [])
     (each_front IsOther (opening is.finished.upload.size is.finished.upload.lists ++ first_value ∷ wrong ∷ []) _ there)).1.0 refl
   where
     late_is : is.late ≡ stamped 7 upload

@@ -2,7 +2,7 @@ use Rattle.std.proofs.Common.{[], ◌∷◌, refl}
 use Rattle.iol_disk.specs.Calls.{write, sync}
 use Rattle.iol_disk.specs.Gate.{open_gate}
 use Rattle.iol_layout.specs.declared.geometry.TheConstants.{DISK_GATE}
-use Rattle.iol_disk.proofs.Making.{makes_sync, makes_write, makes_then, made_of, failed_of, hands_on, fails_early, fails_behind}
+use Rattle.iol_disk.proofs.Making.{makes_sync, makes_write, makes_then, made_of, failed_of, hands_on, fails_early, fails_after}
 use Rattle.iol_journal.proofs.formatting.open_disk.Goals as goal
 
 pub returns-in_err-sync : goal.returns-in_err-sync
@@ -19,7 +19,7 @@ returns-in_err-open_gate g c =
     let synced = made_of _ c.in_ok-sync.was (makes_sync c.sync.result _ _ s.synced s.same s.fault) in
     let opened = makes_write c.open_gate.result DISK_GATE open_gate _ _ c.gate.ensures refl e.wrote e.wrote_some e.fault in
     hands_on _ c.from_residual-in_err-open_gate.result c.from_residual-in_err-open_gate.ensures.1
-    (fails_behind (sync ∷ []) (write DISK_GATE open_gate ∷ []) ((sync ∷ []) ∷ []) synced (failed_of _ c.in_err-open_gate.was opened))
+    (fails_after (sync ∷ []) (write DISK_GATE open_gate ∷ []) ((sync ∷ []) ∷ []) synced (failed_of _ c.in_err-open_gate.was opened))
 
 pub returns : goal.returns
 returns g c =

@@ -5,7 +5,7 @@ use Rattle.iol_layout.specs.Geometry.{geometry_octets}
 use Rattle.iol_layout.specs.Layout.{Layout, laid_out, gate_at}
 use Rattle.iol_layout.specs.declared.area.Area.TheVariants.{A, B}
 use Rattle.iol_layout.specs.declared.geometry.TheConstants.{GEOMETRY}
-use Rattle.iol_disk.proofs.Making.{makes_write, makes_then, made_of, failed_of, hands_on, fails_early, fails_behind}
+use Rattle.iol_disk.proofs.Making.{makes_write, makes_then, made_of, failed_of, hands_on, fails_early, fails_after}
 use Rattle.iol_journal.proofs.formatting.write_gates.Goals as goal
 
 pub returns-in_err-write : goal.returns-in_err-write
@@ -29,7 +29,7 @@ returns-in_err-open_gate g c =
     let at = c.gate-2.ensures ∙ c.gate.ensures.at ∙ ap (λ (l : Layout). gate_at l A) c.of-layout.ensures in
     let opened = makes_write c.open_gate.result (gate_at layout A) open_gate _ _ at refl e.wrote e.wrote_some e.fault in
     hands_on _ c.from_residual-in_err-open_gate.result c.from_residual-in_err-open_gate.ensures.1
-    (fails_behind (write GEOMETRY (geometry_octets c.args.geometry) ∷ []) (write (gate_at layout A) open_gate ∷ [])
+    (fails_after (write GEOMETRY (geometry_octets c.args.geometry) ∷ []) (write (gate_at layout A) open_gate ∷ [])
     ((write (gate_at layout B) closed_gate ∷ []) ∷ [])
     said (failed_of _ c.in_err-open_gate.was opened))
 

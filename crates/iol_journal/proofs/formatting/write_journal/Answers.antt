@@ -9,7 +9,7 @@ use Rattle.iol_layout.specs.Layout.{laid_out}
 use Rattle.iol_journal.specs.Orders.{gate_writes, header_writes, opening_calls}
 use Rattle.iol_layout.specs.declared.area.Area.TheVariants.{A}
 use Rattle.iol_layout.proofs.Plans.{plan-row}
-use Rattle.iol_disk.proofs.Making.{makes_then, hands_on, fails_early, fails_behind}
+use Rattle.iol_disk.proofs.Making.{makes_then, hands_on, fails_early, fails_after}
 use Rattle.iol_journal.proofs.WrittenJournals.{blank-records}
 use Rattle.iol_journal.proofs.formatting.write_journal.Goals as goal
 
@@ -40,7 +40,7 @@ returns-in_err-close_slots g c =
     let parts = parts_of c.args.version c.args.geometry in
     let is = c.requires.plan in
     hands_on _ c.from_residual-in_err-close_slots.result c.from_residual-in_err-close_slots.ensures.1
-    (fails_behind parts.gates parts.slots (parts.headers ∷ parts.ports ∷ opening_calls ∷ [])
+    (fails_after parts.gates parts.slots (parts.headers ∷ parts.ports ∷ opening_calls ∷ [])
     c.in_ok-write_gates.ensures (rw (is.layout_is, is.area_is) at c.in_err-close_slots.ensures))
 
 pub returns-in_err-write_headers : goal.returns-in_err-write_headers
@@ -50,7 +50,7 @@ returns-in_err-write_headers g c =
     let closed = rw (is.layout_is, is.area_is) at c.in_ok-close_slots.ensures in
     let failed = rw (is.layout_is, is.area_is, is.header_is) at c.in_err-write_headers.ensures in
     hands_on _ c.from_residual-in_err-write_headers.result c.from_residual-in_err-write_headers.ensures.1
-    (fails_behind (parts.gates ++ parts.slots) parts.headers (parts.ports ∷ opening_calls ∷ [])
+    (fails_after (parts.gates ++ parts.slots) parts.headers (parts.ports ∷ opening_calls ∷ [])
     (made_append parts.gates parts.slots _ _ _ c.in_ok-write_gates.ensures closed) failed)
 
 pub write_records-requires : goal.write_records-requires
@@ -71,7 +71,7 @@ returns-in_err-write_records g c =
     let failed = rw is.records_are at c.in_err-write_records.ensures in
     let written = made_append parts.gates parts.slots _ _ _ c.in_ok-write_gates.ensures closed in
     hands_on _ c.from_residual-in_err-write_records.result c.from_residual-in_err-write_records.ensures.1
-    (fails_behind (parts.gates ++ parts.slots ++ parts.headers) parts.ports (opening_calls ∷ [])
+    (fails_after (parts.gates ++ parts.slots ++ parts.headers) parts.ports (opening_calls ∷ [])
     (made_append (parts.gates ++ parts.slots) parts.headers _ _ _ written headed) failed)
 
 pub returns : goal.returns

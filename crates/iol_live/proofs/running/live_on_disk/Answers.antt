@@ -21,9 +21,9 @@ returns-clause-lived g c =
     let receipts = vec_len c.args.script.now.changes in
     let found = c.in_ok-journal.ensures in
     λ honest kept there is.
-    subst (λ (s : Standing). IfOk c.live_behind.result (λ text. IsAfterWhatIsThere receipts s (string_bytes text)))
+    subst (λ (s : Standing). IfOk c.live_with_front.result (λ text. IsAfterWhatIsThere receipts s (string_bytes text)))
     (ok_same c.in_ok-journal.journal.standing there (sym (found.found (honest c.args.disk)) ∙ is))
-    (c.live_behind.ensures.lived honest (found.at_rest (λ h. kept), rw found.begun tt))
+    (c.live_with_front.ensures.lived honest (found.at_rest (λ h. kept), rw found.begun tt))
 
 pub returns-clause-cause : goal.returns-clause-cause
 returns-clause-cause g c =
@@ -31,5 +31,5 @@ returns-clause-cause g c =
     let devices = c.args.script.now.devices.items in
     let found = c.in_ok-journal.ensures in
     λ honest kept.
-    IfErr-weaker c.live_behind.result _ (IsLiveCause d devices) (λ fault is. inr is)
-    (c.live_behind.ensures.cause honest (found.at_rest (λ h. kept), rw found.begun tt))
+    IfErr-weaker c.live_with_front.result _ (IsLiveCause d devices) (λ fault is. inr is)
+    (c.live_with_front.ensures.cause honest (found.at_rest (λ h. kept), rw found.begun tt))

@@ -4,7 +4,7 @@ use Rattle.iol_front.specs.Fronts.{CommittedView}
 use Rattle.iol_types.specs.declared.command.Change.{Change}
 use Rattle.iol_master.specs.Callers.{asked}
 use Rattle.iol_master.specs.declared.caller.Caller.{Caller}
-use Rattle.iol_master.proofs.Waiting.{asked_at, dropped_next, first_behind, taken_at}
+use Rattle.iol_master.proofs.Waiting.{asked_at, dropped_next, first_after, taken_at}
 use Rattle.iol_master.proofs.guarded.tell_all.Goals as goal
 use Rattle.iol_master.proofs.guarded.tell_all.Goals.{in-Some-Some, in-Some+in-None-1, in-None-1}
 
@@ -21,7 +21,7 @@ tell-requires-after_bounds g c lifetimes outlives =
     ∙ ap (λ (first : Option (Caller g.row.F.Denot)). asked first ∷ map asked c.pop_front.new.self.items) c.in-Some-Some.field-0-is) in
     let there : slice_get (take (length commands) all) place ≡ Some (Some change) =
     taken_at (length commands) place all (omega (arith, c.loop-place-test.true, c.len-place-end.ensures))
-    ∙ first_behind all place (Some change) (map asked c.pop_front.new.self.items) waits in
+    ∙ first_after all place (Some change) (map asked c.pop_front.new.self.items) waits in
     ap (λ (batch : CommittedView). slice_get batch.commands place) c.loop-place.invariant.same
     ∙ asked_at commands (take (length commands) all) place change c.requires there
 

@@ -11,8 +11,8 @@ use Rattle.iol_recovery.specs.declared.cause.RecoverCause.TheVariants.{Memory}
 use Rattle.iol_recovery.specs.declared.replay.End.{End}
 use Rattle.iol_recovery.proofs.Wants.{slot-wants, body_read, wants-longer}
 use Rattle.iol_layout.proofs.Spans.{slots-inside}
-use Rattle.iol_disk.proofs.Unchanged.{same-honest, same-then, failed_behind}
-use Rattle.iol_recovery.proofs.Readings.{counted_behind, fault-says_nothing}
+use Rattle.iol_disk.proofs.Unchanged.{same-honest, same-then, failed_after}
+use Rattle.iol_recovery.proofs.Readings.{counted_after, fault-says_nothing}
 use Rattle.iol_recovery.proofs.SlotLogs.{log-span, log-stuck, log-past, log-closed, gate_read, batch_read, span_read}
 use Rattle.iol_recovery.proofs.replay.replay_open_slots.Goals as goal
 
@@ -163,7 +163,7 @@ returns-in_err-is_open-clause-counted g c =
     let d = g.D.SectorDisk.disk in
     let e = c.in_err-is_open.ensures.fault in
     let p = err_from_is_err_and c.from_residual.result c.from_residual.ensures.1 in
-    rw (p.1, p.2) (e.0, failed_behind (d c.args.disk.now) (d c.loop-used.disk) (d c.is_open.new.disk) c.loop-used.invariant.quiet e.1)
+    rw (p.1, p.2) (e.0, failed_after (d c.args.disk.now) (d c.loop-used.disk) (d c.is_open.new.disk) c.loop-used.invariant.quiet e.1)
 
 pub returns-in_err-read_body-clause-finds : goal.returns-in_err-read_body-clause-finds
 returns-in_err-read_body-clause-finds g c =
@@ -175,7 +175,7 @@ returns-in_err-read_body-clause-counted g c =
     let d = g.D.SectorDisk.disk in
     let quiet = c.in_ok-span.ensures.counted ∙ c.in_ok-is_open.ensures.fault ∙ c.loop-used.invariant.quiet in
     let p = err_from_is_err_and c.from_residual-in_err-read_body.result c.from_residual-in_err-read_body.ensures.1 in
-    rw (p.1, p.2) (counted_behind End _ (d c.args.disk.now) (d c.read_head.new.disk) (d c.read_body.new.disk) quiet
+    rw (p.1, p.2) (counted_after End _ (d c.args.disk.now) (d c.read_head.new.disk) (d c.read_body.new.disk) quiet
     c.in_err-read_body.ensures.counted)
 
 -- ---- where memory is needed

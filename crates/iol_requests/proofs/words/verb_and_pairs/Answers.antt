@@ -23,8 +23,8 @@ is_long a b not = grind (arith, nat_tests)
 at_place : (text : List ℕ) (place : ℕ) → position is_blank text ≡ Some place → place ≡ position_or_len is_blank text
 at_place text place found = found_at _ _ place found
 
-behind_all : (text : List ℕ) → position is_blank text ≡ None → length text ≤ position_or_len is_blank text
-behind_all text none = is_long _ _ (found_none _ _ none)
+after_all : (text : List ℕ) → position is_blank text ≡ None → length text ≤ position_or_len is_blank text
+after_all text none = is_long _ _ (found_none _ _ none)
 
 pub returns-in-Some-clause-verb : goal.returns-in-Some-clause-verb
 returns-in-Some-clause-verb c =
@@ -44,11 +44,11 @@ pub returns-in-None-clause-verb : goal.returns-in-None-clause-verb
 returns-in-None-clause-verb c =
     let text = c.args.text.now in
     let none : position is_blank text ≡ None = cc in
-    sym (take_all (position_or_len is_blank text) text (behind_all text none))
+    sym (take_all (position_or_len is_blank text) text (after_all text none))
 
 pub returns-in-None-clause-pairs : goal.returns-in-None-clause-pairs
 returns-in-None-clause-pairs c =
     let text = c.args.text.now in
     let none : position is_blank text ≡ None = cc in
-    let long = behind_all text none in
+    let long = after_all text none in
     sym (drop_all (position_or_len is_blank text + 1) text (omega arith))

@@ -1,5 +1,5 @@
 use Rattle.iol_serve.proofs.serving.serve.Given as goal
 
 -- the front that was just made
-abbrev pub ghosts-serve_behind : goal.ghosts-serve_behind
-ghosts-serve_behind g a = record { front = a.front }
+abbrev pub ghosts-serve_with_front : goal.ghosts-serve_with_front
+ghosts-serve_with_front g a = record { front = a.front }

@@ -3,13 +3,13 @@ use Rattle.std.proofs.lemmas.Grind.{common_steps}
 use Rattle.iol_types.specs.Key.{is_reserved}
 use Rattle.iol_types.specs.declared.key.Key.{Key}
 use Rattle.iol_transfer.specs.List.{kept_with}
-use Rattle.iol_transfer.proofs.Readings.{read_behind, read_behind-none, read_behind-entry, begins_with_key-entry, key_in, take-drop_all}
+use Rattle.iol_transfer.proofs.Readings.{read_after, read_after-none, read_after-entry, begins_with_key-entry, key_in, take-drop_all}
 use Rattle.iol_transfer.proofs.ReadKeys.{reading_of-keys}
 use Rattle.iol_transfer.proofs.reading.read_index_list.Goals as goal
 
 pub loop-rest-init : goal.loop-rest-init
 loop-rest-init c = record {
-  reads = read_behind-none c.args.octets.now ∙ ap (λ keys. read_behind keys c.args.octets.now) (sym c.new-keys.ensures.items);
+  reads = read_after-none c.args.octets.now ∙ ap (λ keys. read_after keys c.args.octets.now) (sym c.new-keys.ensures.items);
   met = λ met. met;
 }
 
@@ -24,9 +24,9 @@ loop-rest-preserved c =
     c.in_ok-keep_key.ensures.kept ∙ ap (λ (index : ℕ). kept_with c.loop-rest.keys.items (key index)) c.from_be_bytes-index.ensures in
     record {
       reads =
-          c.loop-rest.invariant.reads ∙ read_behind-entry c.loop-rest.keys.items rest c.in-len3-up.len_at_least free
-          ∙ ap (λ (keys : List Key). read_behind keys (drop 3 rest)) (sym kept)
-          ∙ ap (λ (octets : List ℕ). read_behind c.keep_key.new.keys.items octets) (sym (take-drop_all 3 rest));
+          c.loop-rest.invariant.reads ∙ read_after-entry c.loop-rest.keys.items rest c.in-len3-up.len_at_least free
+          ∙ ap (λ (keys : List Key). read_after keys (drop 3 rest)) (sym kept)
+          ∙ ap (λ (octets : List ℕ). read_after c.keep_key.new.keys.items octets) (sym (take-drop_all 3 rest));
       met = λ _. c.loop-rest.invariant.met (begins_with_key-entry rest c.in-len3-up.len_at_least free);
     }
 

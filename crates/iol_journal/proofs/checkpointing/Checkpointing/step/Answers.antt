@@ -4,7 +4,7 @@ use Rattle.iol_journal.specs.BegunViews.{BegunView}
 use Rattle.iol_journal.specs.Checkpoints.{target, with_batches}
 use Rattle.iol_journal.specs.CheckpointViews.{CheckpointingView, end_of, stages_left, IsCheckpointUnderway}
 use Rattle.iol_journal.specs.Pauses.{calls_of, IsDrawnUp, IsPaused}
-use Rattle.iol_journal.specs.Drafts.{begun_behind, stage_behind}
+use Rattle.iol_journal.specs.Drafts.{begun_after, stage_after}
 use Rattle.iol_layout.specs.Layout.{Layout, renewed}
 use Rattle.iol_layout.specs.Standings.{IsResting}
 use Rattle.iol_journal.specs.Parts.{stands}
@@ -74,7 +74,7 @@ moved_to-requires-clause-begun g c =
 
 -- the next stage
 next_told : (g : Given.Over) (c : goal.After-moved_to g)
-    → stage_behind (target (stands c.self.inside.parts) (log_of c.self.inside.begun))
+    → stage_after (target (stands c.self.inside.parts) (log_of c.self.inside.begun))
     (commands_owed c.self.inside.begun.owed.items) c.self.inside.begun.stage ≡ Some c.in-Some.stage
 next_told g c =
     let w = c.self.inside in
@@ -138,7 +138,7 @@ returns-in-Some-clause-more g c =
       standing = ap (λ (v : CheckpointingView g.row.D.Denot). v.standing) c.self.view_is;
       history = ap (λ (v : CheckpointingView g.row.D.Denot). v.history) c.self.view_is;
       behind =
-          subst (λ (v : CheckpointingView g.row.D.Denot). begun_behind v.standing v.begun ≡ Some (view_of c.moved_to.result)) c.self.view_is
+          subst (λ (v : CheckpointingView g.row.D.Denot). begun_after v.standing v.begun ≡ Some (view_of c.moved_to.result)) c.self.view_is
           (begun-behind (stands w.parts) w.begun c.moved_to.result c.in-Some.stage
           (next_told g c) moved.log moved.owed
           moved.stage);

@@ -14,13 +14,13 @@ use Rattle.iol_journal.specs.Journals.{WritingView, calls_left}
 use Rattle.iol_layout.specs.Standings.{IsResting, with_batch}
 use Rattle.iol_journal.specs.Parts.{stands}
 use Rattle.iol_layout.specs.Body.{values}
-use Rattle.iol_journal.specs.Planned.{written_behind}
+use Rattle.iol_journal.specs.Planned.{written_after}
 use Rattle.iol_layout.proofs.Bodies.{length-body}
 use Rattle.iol_journal.proofs.BegunLaws.{set_aside_on, set_aside_owing, views-owing}
-use Rattle.iol_journal.proofs.BesideLaws.{beside_after, paused_behind}
-use Rattle.iol_journal.proofs.Phases.{fit_of, rest_means, standing_behind}
+use Rattle.iol_journal.proofs.BesideLaws.{beside_after, paused_after}
+use Rattle.iol_journal.proofs.Phases.{fit_of, rest_means, standing_written}
 use Rattle.iol_journal.proofs.RunSteps.{run_of_call, run_of_written}
-use Rattle.iol_journal.proofs.Steps.{moment_of, underway, durable, makes_first, makes_last, fails_first, planned_next, resting_behind}
+use Rattle.iol_journal.proofs.Steps.{moment_of, underway, durable, makes_first, makes_last, fails_first, planned_next, resting_after}
 use Rattle.iol_journal.proofs.writing.Writing.step.Given
 use Rattle.iol_journal.proofs.writing.Writing.step.Goals as goal
 
@@ -113,12 +113,12 @@ at_rest-requires-clause-resting g c =
     let w = c.self.inside in
     let s = stands w.parts in
     let commands = values w.batch.commands.items in
-    let behind = standing_behind w.parts.place w.parts.number (w.parts.number + c.len.result) w.plan.body.span w.parts.state
+    let behind = standing_written w.parts.place w.parts.number (w.parts.number + c.len.result) w.plan.body.span w.parts.state
     w.plan.next commands
     c.self.invariant.1.body.span
     (omega (arith, c.len.ensures, length-map w.batch.commands.items value_of)) c.self.invariant.1.next in
     subst (IsResting (g.D.SectorDisk.disk c.make.new.disk)) (sym behind)
-    (resting_behind _ _ s commands w.phase c.self.invariant.0 (c.in_default.ensures.makes w.parts.number w.parts.state).after.sectors)
+    (resting_after _ _ s commands w.phase c.self.invariant.0 (c.in_default.ensures.makes w.parts.number w.parts.state).after.sectors)
 
 pub returns-in-None-clause-call : goal.returns-in-None-clause-call
 returns-in-None-clause-call g c =
@@ -144,7 +144,7 @@ standing_after : (g : Given.Over) (c : goal.After-at_rest g)
 standing_after g c =
     let w = c.self.inside in
     c.at_rest.ensures.standing
-    ∙ standing_behind w.parts.place w.parts.number _ w.plan.body.span w.parts.state w.plan.next (values w.batch.commands.items)
+    ∙ standing_written w.parts.place w.parts.number _ w.plan.body.span w.parts.state w.plan.next (values w.batch.commands.items)
     c.self.invariant.1.body.span
     (omega (arith, c.len.ensures, length-map w.batch.commands.items value_of)) c.self.invariant.1.next
 
@@ -183,7 +183,7 @@ at_rest-requires-clause-begun g c =
     let s = stands w.parts in
     let commands = values w.batch.commands.items in
     let plan = c.self.invariant.1 in
-    let behind = standing_behind w.parts.place w.parts.number (w.parts.number + c.len.result) w.plan.body.span w.parts.state
+    let behind = standing_written w.parts.place w.parts.number (w.parts.number + c.len.result) w.plan.body.span w.parts.state
     w.plan.next commands plan.body.span
     (omega (arith, c.len.ensures, length-map w.batch.commands.items value_of)) plan.next in
     subst (λ (t : Standing). IsSetAside (d c.make.new.disk) t w.parts.place.idle c.owing-begun.result) (sym behind)
@@ -212,7 +212,7 @@ returns-in-None-clause-paused g c u b =
     (subst (λ (os : List ℕ). Made (call_of s os w.phase ∷ []) (d w.disk) (d c.make.new.disk)) plan.body.octets made)
     c.self.invariant.4 beside in
     rw (c.at_rest.ensures.disk, standing_after g c, c.at_rest.ensures.begun)
-    (paused_behind (d w.disk) (d c.make.new.disk) s commands w.parts.place.idle w.begun c.owing-begun.result w.plan.body
+    (paused_after (d w.disk) (d c.make.new.disk) s commands w.parts.place.idle w.begun c.owing-begun.result w.plan.body
     (w.parts.place.epoch + 1)
     made.after.sectors c.self.invariant.4 c.self.invariant.0.follows plan.body refl c.owing-begun.ensures still rests)
 
@@ -226,7 +226,7 @@ returns-in-None-clause-done g c =
       standing = standing_after g c ∙ ap (λ (v : WritingView g.row.D.Denot). with_batch v.standing v.commands) c.self.view_is;
       idle = c.at_rest.ensures.idle ∙ ap (λ (v : WritingView g.row.D.Denot). v.idle) c.self.view_is;
       history = c.at_rest.ensures.history ∙ c.with_batch-parts.ensures
-          ∙ ap (λ (v : WritingView g.row.D.Denot). written_behind v.history v.commands) c.self.view_is;
+          ∙ ap (λ (v : WritingView g.row.D.Denot). written_after v.history v.commands) c.self.view_is;
       begun = c.at_rest.ensures.begun
           ∙ views-owing (d w.disk) (d c.make.new.disk) s w.parts.place.idle commands w.begun c.owing-begun.result w.plan.body
           (w.parts.place.epoch + 1)

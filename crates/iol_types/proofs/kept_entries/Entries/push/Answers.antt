@@ -5,7 +5,7 @@ use Rattle.indexmap.specs.IndexMap.{spare, insert_entry}
 use Rattle.iol_types.specs.Key.{same_key}
 use Rattle.iol_types.specs.DataSet.{Entry, add_fault}
 use Rattle.iol_types.specs.EntriesInMemory.{entries_of}
-use Rattle.iol_types.specs.Parts.{PartsValue, entry_octets, with_text, data_behind}
+use Rattle.iol_types.specs.Parts.{PartsValue, entry_octets, with_text, data_after}
 use Rattle.iol_types.specs.declared.data_set.TheConstants.{ENTRY_HEAD_OCTETS}
 use Rattle.iol_types.specs.declared.key.Key.{Key}
 use Rattle.iol_types.specs.declared.parts.PartPlace.{PartPlace}
@@ -34,7 +34,7 @@ made c =
     (may_be_added (entries_of parts kept) c.args.key c.args.octets.now may).absent in
     let inserted = said c.insert.result (c.insert.ensures.succeeds room) c.insert.ensures.entries in
     let entries : c.insert.new.self.entries
-    ≡ kept ++ (c.args.key, data_behind parts (length c.args.octets.now)) ∷ [] =
+    ≡ kept ++ (c.args.key, data_after parts (length c.args.octets.now)) ∷ [] =
     inserted
     ∙ ap (λ before. insert_entry same_key before c.args.key c.in_ok-place.place) c.in_ok-reserve.ensures.entries
     ∙ insert_entry-new same_key c.self.inside.places c.args.key c.in_ok-place.place absent

@@ -4,7 +4,7 @@ use Rattle.iol_front.specs.Fronts.{FrontId}
 use Rattle.iol_journal.specs.Journals.{JournalView}
 use Rattle.iol_flush.specs.Flushing.{Rests}
 use Rattle.iol_live.specs.Lived.{IsAfterWhatIsThere, IsRunCause}
-use Rattle.iol_live.proofs.running.live_behind.Goals as goal
+use Rattle.iol_live.proofs.running.live_with_front.Goals as goal
 
 -- contracts see the master as the journal that it was started with
 pub live_with-requires : goal.live_with-requires
