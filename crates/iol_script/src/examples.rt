@@ -7,7 +7,7 @@ ghost use Rattle.iol_disk.specs.declared.fault.DiskFault.TheVariants as disk_cal
 ghost use Rattle.iol_disk.specs.declared.pick.Pick.TheVariants as pick;
 ghost use Rattle.iol_script.specs.Number.{octet_of, calls_of, times_of, port_in, vendor_in, device_in};
 ghost use Rattle.iol_script.specs.Parameter.{key_of, octets_in};
-ghost use Rattle.iol_script.specs.Step.{clear_in, label_or_none};
+ghost use Rattle.iol_script.specs.Step.{change_of_kind, clear_in, label_or_none};
 ghost use Rattle.iol_script.specs.Parameters.{of_device};
 ghost use Rattle.iol_script.specs.Fail.{kind_of, call_in};
 ghost use Rattle.iol_script.specs.Stop.{keep_of};
@@ -150,6 +150,13 @@ pub fn a_live_script()
     ensures no_numbers { live_in (codes "step = [{ do = \"clear\", port = 2 }]\n")
         ≡ Some (record { devices = []; changes = change.Clear 2 ∷ [] }) }
     ensures no_key { live_in (codes "port = 2\n") ≡ None }
+{}
+
+/// A client's commands that name only a port are of two kinds. A configuration needs more keys, and a kind is spelled in one way.
+pub fn changes_of_a_port()
+    ensures { map (λ kind. change_of_kind kind (said_at (codes "port") (pos 2)))
+        (codes "clear" ∷ codes "rollback" ∷ codes "configure" ∷ codes "Clear" ∷ codes "port" ∷ [])
+        ≡ Some (change.Clear 2) ∷ Some (change.Rollback 2) ∷ None ∷ None ∷ None ∷ [] }
 {}
 
 /// A step of a port or of the flusher, a drain and a stop are not steps of a client.
