@@ -3,8 +3,8 @@ ghost use Rattle.std.specs.Prelude.{◌≡◌};
 ghost use Rattle.toml.specs.View.{table_view};
 ghost use Rattle.iol_script.specs.LiveScript.{change_in};
 
-use crate::live_script::change_by;
 use crate::step::Step;
+use crate::steps::change_by;
 use iol_types::Change;
 use toml::Table;
 

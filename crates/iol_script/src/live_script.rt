@@ -1,12 +1,13 @@
 //! A script for a master that runs in threads.
 ghost use Rattle.std.specs.Prelude.{◌≡◌, None, Some, IfOk};
 ghost use Rattle.toml.specs.View.{view, items_view, table_view};
-ghost use Rattle.iol_script.specs.LiveScript.{change_by, change_of, changes_of};
+ghost use Rattle.iol_script.specs.LiveScript.{change_of, changes_of};
 
 use crate::device::Device;
 use crate::devices::read_devices;
 use crate::script::{ScriptFault, TOP_KEYS};
 use crate::step::Step;
+use crate::steps::change_by;
 use crate::table::{has_only_keys, values_at};
 use crate::text::read_table;
 use iol_types::Change;
@@ -81,14 +82,4 @@ fn read_change(value: &Value) -> Option<Change>
     ensures { result ≡ change_of (view value.now) }
 {
     change_by(Step::read(value)?)
-}
-
-// Returns the change that a step requests, if the step is a client's.
-pub(crate) fn change_by(step: Step) -> Option<Change>
-    ensures { result ≡ change_by step }
-{
-    match step {
-        Step::Ask(change) => Some(change),
-        _ => None,
-    }
 }

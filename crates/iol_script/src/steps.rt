@@ -1,12 +1,14 @@
 //! The steps of a script, and the stop after them.
 ghost use Rattle.std.specs.Prelude.{◌≡◌, None, Some, IfOk};
 ghost use Rattle.toml.specs.View.{items_view};
+ghost use Rattle.iol_script.specs.LiveScript.{change_by};
 ghost use Rattle.iol_script.specs.Steps.{before_stop, steps_of};
 
 use crate::script::ScriptFault;
 use crate::step::Step;
 use crate::stop::read_stop;
 use iol_disk::Pick;
+use iol_types::Change;
 use std::alloc::Global;
 use toml::Value;
 
@@ -36,4 +38,14 @@ pub(crate) fn read_steps(alloc: Global, values: &[Value]) -> Result<Vec<Step>, S
         steps.push(step)?;
     }
     Ok(steps)
+}
+
+// Returns the change that a step requests, if the step is a client's.
+pub(crate) fn change_by(step: Step) -> Option<Change>
+    ensures { result ≡ change_by step }
+{
+    match step {
+        Step::Ask(change) => Some(change),
+        _ => None,
+    }
 }
