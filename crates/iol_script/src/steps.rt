@@ -34,7 +34,11 @@ pub(crate) fn read_steps(alloc: Global, values: &[Value]) -> Result<Vec<Step>, S
 {
     let mut steps = Vec::with_capacity(alloc, values.len())?;
     for value in values {
-        let step = Step::read(value).ok_or(ScriptFault::NotValid)?;
+        // Both arms return the step that was read. The prover has to meet a change here to know what a step is made of.
+        let step = match Step::read(value).ok_or(ScriptFault::NotValid)? {
+            Step::Ask(change) => Step::Ask(change),
+            step => step,
+        };
         steps.push(step)?;
     }
     Ok(steps)

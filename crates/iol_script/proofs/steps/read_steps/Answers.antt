@@ -13,5 +13,6 @@ pub loop-value-preserved : goal.loop-value-preserved
 loop-value-preserved c =
     let next = items_view-drop c.args.values.now c.loop-value.value-index c.value-item.result c.loop-value-test.true in
     let some : c.read.result ≡ Some c.in_ok-step.step = search rules in
-    rw (c.loop-value.invariant, next, ← c.value-item.is, ← c.read.ensures, some, c.in_ok-push.ensures.items)
-    (appended_in_order c.loop-value.steps.items c.in_ok-step.step _)
+    let same : c.match-branch-3.step ≡ c.in_ok-step.step = search rules in
+    rw (c.loop-value.invariant, next, ← c.value-item.is, ← c.read.ensures, some, ← same, c.in_ok-push.ensures.items)
+    (appended_in_order c.loop-value.steps.items c.match-branch-3.step _)
